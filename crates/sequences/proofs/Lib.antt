@@ -1,0 +1,4 @@
+mod Runs
+mod Shifts
+mod Flats
+pub mod Rulings
