@@ -4,6 +4,7 @@ ghost use mathlib.Core.Path.{_≡_};
 ghost use Rattle.kinds.specs.Rules.{Rule, Laws, summary};
 ghost use Rattle.kinds.specs.Sums.{_⊕_, SumLaws};
 ghost use Rattle.kinds.specs.Models.{thinnest, fits16, thinnest-laws, total, fits32, total-laws, both, validBoth, both-laws};
+use std::fmt;
 use std::marker::PhantomData;
 
 // A kind of summary. `rule` is what it means, `valid` tells the summaries that can exist, and `laws` is what every
@@ -108,6 +109,14 @@ pub impl Kind for Total as TotalKind {
 pub struct Pair<A, B> {
     pub first: A,
     pub second: B,
+}
+
+pub impl<A: fmt::Display, B: fmt::Display> fmt::Display for Pair<A, B> as PairDisplay {
+    fn fmt<W: fmt::Write>(&self, f: &mut fmt::Formatter<W>) -> fmt::Result {
+        let first = &self.first;
+        let second = &self.second;
+        write!(f, "({first}, {second})")
+    }
 }
 
 // Two kinds over one element type, side by side.

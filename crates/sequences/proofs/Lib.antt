@@ -1,4 +1,4 @@
-mod Runs
+pub mod Runs
 mod Shifts
 mod Flats
 pub mod Rulings

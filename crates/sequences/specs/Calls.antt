@@ -1,9 +1,10 @@
 -- What a list of calls of a sequence answers and leaves, by the rules of the list alone.
-use mathlib.Core.List.{List, [], _∷_}
+use mathlib.Core.List.{List}
 use Prim.Native.Nat.{ℕ}
 use lib.ListN.{length}
 use Rattle.kinds.specs.Rules.{Rule}
 use Rattle.sequences.specs.Lists.{insertAnswer, insertList, placeAnswer, deleteList, replaceList, elementAnswer, rangeAnswer}
+use Rattle.sequences.specs.Runs.{leftBy, answersBy}
 use Rattle.sequences.specs.declared.calls.Call.{Call}
 use Rattle.sequences.specs.declared.calls.Call.the-variants.{Count, Capacity, ElementAt, RangeJoin, Insert, Delete, Replace}
 use Rattle.sequences.specs.declared.calls.Answer.{Answer}
@@ -33,11 +34,9 @@ module _ {E : Type 0} (room : ℕ) where
 
   -- the list that a list of calls leaves
   abbrev pub afterAll : List E → List (Call E) → List E
-  afterAll xs [] = xs
-  afterAll xs (call ∷ calls) = afterAll (after xs call) calls
+  afterAll xs calls = leftBy after xs calls
 
 module _ {E S : Type 0} (m : Rule E S) (room : ℕ) where
   -- what a list of calls answers, each over the list that those before it left
   abbrev pub answers : List E → List (Call E) → List (Answer E S)
-  answers xs [] = []
-  answers xs (call ∷ calls) = answer m room xs call ∷ answers (after room xs call) calls
+  answers xs calls = answersBy (after room) (answer m room) xs calls

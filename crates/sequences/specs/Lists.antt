@@ -42,9 +42,12 @@ found (Some x) = Ok x
 abbrev pub elementAnswer : {E : Type 0} → List E → ℕ → Result E Refusal
 elementAnswer xs i = found (nth xs i)
 
--- A range goes from i up to but without j.
+-- A range goes from i up to but without j. What is told of it, or why it is refused.
+abbrev pub ranged : {E X : Type 0} → Refusal → List E → ℕ → ℕ → X → Result X Refusal
+ranged why xs i j x = cond (ltb j i) (Err why) (cond (ltb (length xs) j) (Err why) (Ok x))
+
 abbrev pub rangeAnswer : {E S : Type 0} → Rule E S → List E → ℕ → ℕ → Result S Refusal
-rangeAnswer m xs i j = cond (ltb j i) (Err noPlace) (cond (ltb (length xs) j) (Err noPlace) (Ok (summary m (between i j xs))))
+rangeAnswer m xs i j = ranged noPlace xs i j (summary m (between i j xs))
 
 -- whether a call was refused, and why, with no word of what it told
 abbrev pub outcome : {T : Type 0} → Result T Refusal → Result (Unit {0}) Refusal
@@ -52,4 +55,4 @@ outcome (Ok x) = Ok tt
 outcome (Err e) = Err e
 
 abbrev pub rangeOutcome : {E : Type 0} → List E → ℕ → ℕ → Result (Unit {0}) Refusal
-rangeOutcome xs i j = cond (ltb j i) (Err noPlace) (cond (ltb (length xs) j) (Err noPlace) (Ok tt))
+rangeOutcome xs i j = ranged noPlace xs i j tt

@@ -10,8 +10,10 @@ ghost use Rattle.std.specs.Vec.{made};
 use crate::Sequence;
 use kinds::Kind;
 use refusals::Refusal;
+use refusals::RefusalDisplay;
 use std::alloc::AllocError;
 use std::alloc::Global;
+use std::fmt;
 
 #[derive(Clone, Copy)]
 pub enum Call<E> {
@@ -24,12 +26,40 @@ pub enum Call<E> {
     Replace(u16, E),
 }
 
+pub impl<E: fmt::Display> fmt::Display for Call<E> as CallDisplay {
+    fn fmt<W: fmt::Write>(&self, f: &mut fmt::Formatter<W>) -> fmt::Result {
+        match self {
+            Call::Count => f.write_str("count"),
+            Call::Capacity => f.write_str("capacity"),
+            Call::ElementAt(i) => write!(f, "element at {i}"),
+            Call::RangeJoin(i, j) => write!(f, "range join from {i} to {j}"),
+            Call::Insert(i, element) => write!(f, "insert {element} at {i}"),
+            Call::Delete(i) => write!(f, "delete {i}"),
+            Call::Replace(i, element) => write!(f, "replace {i} by {element}"),
+        }
+    }
+}
+
 #[derive(Clone, Copy)]
 pub enum Answer<E, S> {
     Number(u16),
     Element(Result<E, Refusal>),
     Summary(Result<S, Refusal>),
     Edit(Result<(), Refusal>),
+}
+
+pub impl<E: fmt::Display, S: fmt::Display> fmt::Display for Answer<E, S> as AnswerDisplay {
+    fn fmt<W: fmt::Write>(&self, f: &mut fmt::Formatter<W>) -> fmt::Result {
+        match self {
+            Answer::Number(n) => write!(f, "{n}"),
+            Answer::Element(Ok(element)) => write!(f, "{element}"),
+            Answer::Summary(Ok(summary)) => write!(f, "{summary}"),
+            Answer::Edit(Ok(())) => f.write_str("ok"),
+            Answer::Element(Err(why)) => write!(f, "refused {why}"),
+            Answer::Summary(Err(why)) => write!(f, "refused {why}"),
+            Answer::Edit(Err(why)) => write!(f, "refused {why}"),
+        }
+    }
 }
 
 // Makes one call.

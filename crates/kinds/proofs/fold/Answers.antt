@@ -16,7 +16,7 @@ loop-element-again g c =
     let xs = c .args .elements .now in
     let i = c .loop-element .element-index in
     let s = c .loop-element .sum in
-    let joined = c .join-sum .ensures ∙ ap (m .join s) (c .of .ensures) in (
+    let joined : c .join-sum .result ≡ m .join s (m .one (c .element-item .result)) = cc (c .join-sum .ensures, c .of .ensures) in (
       omega arith,
       ap (λ z. joinedOn m z (drop (i + 1) xs)) joined
           ∙ joinedOn-more m s xs i _ (c .loop-element-test .taken) (search needs)

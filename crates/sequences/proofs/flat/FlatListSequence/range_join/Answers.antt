@@ -5,6 +5,7 @@ use lib.ListN.{length, take}
 use Rattle.std.specs.declared.result.Result.the-variants.{Ok}
 use Rattle.std.proofs.shelf.Lists.{length-take-le}
 use Rattle.kinds.specs.Rules.{summary}
+use Rattle.sequences.specs.Lists.{noPlace}
 use Rattle.sequences.proofs.Flats.{same-flat}
 use Rattle.sequences.proofs.Rulings.{range-there, between-take}
 use Rattle.sequences.proofs.flat.FlatListSequence.range_join.Needs as need
@@ -19,8 +20,8 @@ returns g c =
     let long : length (take (s .used) xs) ≡ s .used = length-take-le (s .used) xs (omega (arith, s .within)) in
     let inside : j ≤ length (take (s .used) xs) = omega (arith, c .if-j-self .left) in
     record {
-      outcome = sym (range-there (take (s .used) xs) i j tt (c .if-i-j .left) inside);
+      outcome = sym (range-there noPlace (take (s .used) xs) i j tt (c .if-i-j .left) inside);
       value = λ _. ap Ok (c .fold-slots .ensures .value ∙ ap (summary m) (sym (between-take xs i j (s .used) (c .if-j-self .left))))
-          ∙ sym (range-there (take (s .used) xs) i j _ (c .if-i-j .left) inside);
+          ∙ sym (range-there noPlace (take (s .used) xs) i j _ (c .if-i-j .left) inside);
       same = same-flat _ _ (c .fold-slots .ensures .same) refl;
     }

@@ -1,0 +1,3 @@
+mod Sounds
+mod Spots
+mod Searches

@@ -1,0 +1,15 @@
+// A tour of the library: written lists of calls, each printed with its answer or its refusal.
+mod ice;
+mod list;
+
+use std::error::AnyError;
+
+fn main(rt: LibcRuntime) -> Result<(), AnyError> {
+    rt.report(tour(&rt))
+}
+
+fn tour(rt: &LibcRuntime) -> Result<(), AnyError> {
+    ice::survey_a_rink(rt)?;
+    list::run_on_readings(rt)?;
+    Ok(())
+}
