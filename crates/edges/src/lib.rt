@@ -43,9 +43,27 @@ mod tests {
 
     #[test]
     fn folds() -> Result<(), Fail> {
-        check_eq(fold::<Both<Thinnest, Total>>(&[]), Pair { first: 65535, second: 0 })?;
-        check_eq(fold::<Both<Thinnest, Total>>(&[7]), Pair { first: 7, second: 7 })?;
-        check_eq(fold::<Both<Thinnest, Total>>(&[7, 65535, 3, 4]), Pair { first: 3, second: 65549 })
+        check_eq(
+            fold::<Both<Thinnest, Total>>(&[]),
+            Pair {
+                first: 65535,
+                second: 0,
+            },
+        )?;
+        check_eq(
+            fold::<Both<Thinnest, Total>>(&[7]),
+            Pair {
+                first: 7,
+                second: 7,
+            },
+        )?;
+        check_eq(
+            fold::<Both<Thinnest, Total>>(&[7, 65535, 3, 4]),
+            Pair {
+                first: 3,
+                second: 65549,
+            },
+        )
     }
 
     #[test]

@@ -8,17 +8,28 @@ use std::fmt;
 #[derive(Clone, Copy, PartialEq, Eq, Debug)]
 pub enum Layer {
     Sequence,
+    Plan,
     Survey,
 }
 
 #[derive(Clone, Copy, PartialEq, Eq, Debug)]
 pub enum Refusal {
-    // No such place or range. A sequence refuses a place, the layers above it a range.
+    // No such place or range. A sequence refuses a place, the layers above it a range or a junction.
     NoPlace(Layer),
     // The sequence is full.
     Full,
+    // A coordinate out of range.
+    Coordinate,
+    // An acceleration, a feed or a corner speed out of range.
+    Rate,
+    // An override below 10 or above 200 percent.
+    Override,
     // A reading above 2,000 tenths of a millimetre.
     Reading,
+    // A start speed above 100,000,000.
+    Speed,
+    // No lawful profile; the least junction up to which there is none.
+    Blocked(u16),
 }
 
 impl Refusal {
@@ -28,7 +39,12 @@ impl Refusal {
         match self {
             Refusal::NoPlace(_) => 1,
             Refusal::Full => 2,
+            Refusal::Coordinate => 3,
+            Refusal::Rate => 4,
+            Refusal::Override => 5,
             Refusal::Reading => 6,
+            Refusal::Speed => 7,
+            Refusal::Blocked(_) => 8,
         }
     }
 
@@ -38,7 +54,12 @@ impl Refusal {
         match self {
             Refusal::NoPlace(layer) => layer,
             Refusal::Full => Layer::Sequence,
+            Refusal::Coordinate => Layer::Plan,
+            Refusal::Rate => Layer::Plan,
+            Refusal::Override => Layer::Plan,
             Refusal::Reading => Layer::Survey,
+            Refusal::Speed => Layer::Plan,
+            Refusal::Blocked(_) => Layer::Plan,
         }
     }
 
@@ -49,7 +70,12 @@ impl Refusal {
         match self {
             Refusal::NoPlace(_) => "no such place or range",
             Refusal::Full => "the sequence is full",
+            Refusal::Coordinate => "coordinate out of range",
+            Refusal::Rate => "acceleration, feed or corner speed out of range",
+            Refusal::Override => "override out of range",
             Refusal::Reading => "reading above 2000",
+            Refusal::Speed => "start speed above 100000000",
+            Refusal::Blocked(_) => "no lawful profile",
         }
     }
 }
@@ -60,12 +86,13 @@ pub impl fmt::Display for Layer as LayerDisplay {
     fn fmt<W: fmt::Write>(&self, f: &mut fmt::Formatter<W>) -> fmt::Result {
         match self {
             Layer::Sequence => f.write_str("sequence"),
+            Layer::Plan => f.write_str("plan"),
             Layer::Survey => f.write_str("survey"),
         }
     }
 }
 
-// The number, the layer and the reason in words.
+// The number, the layer, the reason in words and what else the case names.
 pub impl fmt::Display for Refusal as RefusalDisplay {
     ghost shown = { λ refusal. Some (wordsOf refusal) };
 
@@ -73,6 +100,12 @@ pub impl fmt::Display for Refusal as RefusalDisplay {
         let number = self.number();
         let layer = self.layer();
         let reason = self.reason();
-        write!(f, "{number} {layer}: {reason}")
+        match self {
+            Refusal::Blocked(junction) => write!(
+                f,
+                "{number} {layer}: {reason}, junction {junction}"
+            ),
+            _ => write!(f, "{number} {layer}: {reason}"),
+        }
     }
 }

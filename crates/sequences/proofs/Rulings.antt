@@ -2,20 +2,22 @@
 use mathlib.Core.Path.{_≡_, refl, sym, ap, _∙_}
 use mathlib.Core.List.{List, [], _∷_, _++_}
 use mathlib.Core.Bool.{cond}
-use Prim.Native.Nat.{ℕ, _+_, _-_, _<_, _≤_}
+use mathlib.Core.Logic.{⊎-elim}
+use Prim.Native.Nat.{ℕ, zero, suc, _+_, _-_, _<_, _≤_, suc-le-suc, zero-le}
 use native.Mathlib.Omega.{arith}
 use lib.ListN.{length, getD, set, take, drop}
-use lib.Dec.{ltb}
-use Rattle.std.specs.Holes.{between, removed}
+use lib.Dec.{ltb, eqb}
+use Rattle.std.specs.Holes.{between, inserted, removed}
 use Rattle.std.specs.declared.result.Result.{Result}
 use Rattle.std.specs.declared.result.Result.the-variants.{Ok, Err}
-use Rattle.std.proofs.shelf.Lists.{take-take, take-append-drop, drop-take, drop-drop}
+use Rattle.std.proofs.shelf.Lists.{take-take, take-append-drop, drop-take, drop-drop, set-past}
 use Rattle.std.proofs.shelf.Edits.{between-none, between-more}
 use Rattle.std.proofs.shelf.Maps.{nth-read, nth-past}
 use Rattle.std.proofs.shelf.Parts.{between-is}
-use Rattle.std.proofs.shelf.Tests.{lt-ltb, le-ltb}
+use Rattle.std.proofs.shelf.Tests.{lt-ltb, le-ltb, ltb-false, cond-both, cases-bool, cases-lt}
 use Rattle.refusals.specs.declared.Refusal.{Refusal}
-use Rattle.sequences.specs.Lists.{noPlace, found, placeAnswer, deleteList, replaceList, elementAnswer, ranged}
+use Rattle.refusals.specs.declared.Refusal.the-variants.{Full}
+use Rattle.sequences.specs.Lists.{noPlace, found, insertAnswer, insertList, placeAnswer, deleteList, replaceList, elementAnswer, ranged}
 
 module _ {E : Type 0} (xs : List E) (i : ℕ) where
   pub element-there : (x : E) → i < length xs → x ≡ getD xs i x → elementAnswer xs i ≡ Ok x
@@ -62,3 +64,55 @@ between-split xs i k j low high =
 pub between-one : {E : Type 0} (xs : List E) (i : ℕ) (d : E) → i < length xs → between i (i + 1) xs ≡ getD xs i d ∷ []
 between-one xs i d within =
     between-more xs i i d (omega arith) within ∙ ap (λ none. none ++ (getD xs i d ∷ [])) (between-none xs i)
+
+-- back from the answer to the case
+pub element-found : {E : Type 0} (xs : List E) (i : ℕ) (x : E) → elementAnswer xs i ≡ Ok x → (i < length xs) × ((d : E) → x ≡ getD xs i d)
+element-found [] i x told = let z : _≡_ {A = ℕ} 0 1 = cc in absurd (omega arith)
+element-found (y ∷ ys) zero x told = let same : x ≡ y = cc in (suc-le-suc zero-le, λ d. same)
+element-found (y ∷ ys) (suc i) x told = let rest = element-found ys i x told in (suc-le-suc (rest .0), rest .1)
+
+pub element-missing : {E : Type 0} (xs : List E) (i : ℕ) (why : Refusal) → elementAnswer xs i ≡ Err why → (length xs ≤ i) × (why ≡ noPlace)
+element-missing [] i why told = let same : why ≡ noPlace = cc in (zero-le, same)
+element-missing (y ∷ ys) zero why told = let z : _≡_ {A = ℕ} 0 1 = cc in absurd (omega arith)
+element-missing (y ∷ ys) (suc i) why told = let rest = element-missing ys i why told in (suc-le-suc (rest .0), rest .1)
+
+-- a replacement past the end is none
+pub replaced-set : {E : Type 0} (xs : List E) (i : ℕ) (e : E) → replaceList xs i e ≡ set xs i e
+replaced-set xs i e = cond-both (ltb i (length xs)) (set xs i e) xs (λ z. z ≡ set xs i e) (λ _. refl) (λ past. sym (set-past xs i e (ltb-false i (length xs) past)))
+
+-- the answers of edits depend on the length of the list alone
+pub insert-by-length : {E F : Type 0} (xs : List E) (ys : List F) (room i : ℕ) → length xs ≡ length ys → insertAnswer xs room i ≡ insertAnswer ys room i
+insert-by-length xs ys room i same = ap (λ n. cond (ltb n i) (Err noPlace) (cond (eqb n room) (Err Full) (Ok tt))) same
+
+pub place-by-length : {E F : Type 0} (xs : List E) (ys : List F) (i : ℕ) → length xs ≡ length ys → placeAnswer xs i ≡ placeAnswer ys i
+place-by-length xs ys i same = ap (λ n. cond (ltb i n) (Ok tt) (Err noPlace)) same
+
+pub ranged-by-length : {E F X : Type 0} (why : Refusal) (xs : List E) (ys : List F) (i j : ℕ) (x : X) → length xs ≡ length ys → ranged why xs i j x ≡ ranged why ys i j x
+ranged-by-length why xs ys i j x same = ap (λ n. cond (ltb j i) (Err why) (cond (ltb n j) (Err why) (Ok x))) same
+
+-- an answer is no refusal
+pub not-both : {T : Type 0} {x : T} {why : Refusal} → _≡_ {A = Result T Refusal} (Ok x) (Err why) → ⊥
+not-both e = let z : _≡_ {A = ℕ} 0 1 = cc in omega arith
+
+-- an accepted insert was within the list, and made the list that it should
+pub insert-accepted : {E : Type 0} (xs : List E) (room i : ℕ) (e : E) → insertAnswer xs room i ≡ Ok tt → (i ≤ length xs) × (insertList xs room i e ≡ inserted xs i e)
+insert-accepted xs room i e told =
+    ⊎-elim
+    (λ past. absurd (not-both (sym told ∙ ap (λ t. cond t (Err noPlace) (cond (eqb (length xs) room) (Err Full) (Ok tt))) past)))
+    (λ within.
+    let told-on = sym (ap (λ t. cond t (Err noPlace) (cond (eqb (length xs) room) (Err Full) (Ok tt))) within) ∙ told in
+    ⊎-elim
+    (λ full. absurd (not-both (sym told-on ∙ ap (λ t. cond t (Err Full) (Ok tt)) full)))
+    (λ free. (ltb-false (length xs) i within, ap (λ t. cond t xs (cond (eqb (length xs) room) xs (inserted xs i e))) within ∙ ap (λ t. cond t xs (inserted xs i e)) free))
+    (cases-bool (eqb (length xs) room)))
+    (cases-bool (ltb (length xs) i))
+
+pub insert-past : {E : Type 0} (xs : List E) (room i : ℕ) → length xs < i → insertAnswer xs room i ≡ Err noPlace
+insert-past xs room i past = ap (λ t. cond t (Err noPlace) (cond (eqb (length xs) room) (Err Full) (Ok tt))) (lt-ltb (length xs) i past)
+
+pub place-accepted : {E : Type 0} (xs : List E) (i : ℕ) → placeAnswer xs i ≡ Ok tt → i < length xs
+place-accepted xs i told =
+    ⊎-elim
+    (λ within. within)
+    (λ past. absurd (not-both (sym told ∙ place-none xs i past)))
+    (cases-lt i (length xs))

@@ -8,5 +8,20 @@ returns-in-NoPlace c = sym (ap reasonOf (c .in-NoPlace .is))
 pub returns-in-Full : need.returns-in-Full
 returns-in-Full c = sym (ap reasonOf (c .in-Full .is))
 
+pub returns-in-Coordinate : need.returns-in-Coordinate
+returns-in-Coordinate c = sym (ap reasonOf (c .in-Coordinate .is))
+
+pub returns-in-Rate : need.returns-in-Rate
+returns-in-Rate c = sym (ap reasonOf (c .in-Rate .is))
+
+pub returns-in-Override : need.returns-in-Override
+returns-in-Override c = sym (ap reasonOf (c .in-Override .is))
+
 pub returns-in-Reading : need.returns-in-Reading
 returns-in-Reading c = sym (ap reasonOf (c .in-Reading .is))
+
+pub returns-in-Speed : need.returns-in-Speed
+returns-in-Speed c = sym (ap reasonOf (c .in-Speed .is))
+
+pub returns-in-Blocked : need.returns-in-Blocked
+returns-in-Blocked c = sym (ap reasonOf (c .in-Blocked .is))

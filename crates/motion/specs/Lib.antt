@@ -1,0 +1,10 @@
+pub mod Ranges
+pub mod Roots
+pub mod Figures
+pub mod Runs
+pub mod Extents
+pub mod Profiles
+pub mod ByParts
+pub mod Outcomes
+pub mod Laid
+pub mod Worked

@@ -1,0 +1,5 @@
+mod Exits
+mod Begins
+mod Accepted
+mod Following
+mod Editing
