@@ -4,6 +4,7 @@ use mathlib.Core.List.{List, [], _∷_, _++_}
 use Prim.Native.Nat.{ℕ, _+_, _<_, _≤_}
 use lib.ListN.{length, drop, getD}
 use Rattle.std.proofs.shelf.Lists.{at-drop-more, at-drop-all}
+use Rattle.kinds.specs.Models.{pair, both}
 use Rattle.kinds.specs.Rules.{Rule, Laws, joinedOn, summary}
 
 module _ {E S : Type 0} (m : Rule E S) where
@@ -45,3 +46,12 @@ module _ {E S : Type 0} {valid : S → Type 0} {m : Rule E S} (laws : Laws valid
 
   pub summary-cons : (x : E) (xs : List E) → summary m (x ∷ xs) ≡ m .join (m .one x) (summary m xs)
   summary-cons x xs = summary-append (x ∷ []) xs ∙ ap (λ z. m .join z (summary m xs)) (summary-one x)
+
+-- a part of a summary by two kinds is the summary by one of them
+module _ {E S T : Type 0} (m : Rule E S) (n : Rule E T) where
+  joinedOn-both : (s : S) (t : T) (xs : List E) → joinedOn (both m n) (pair s t) xs ≡ pair (joinedOn m s xs) (joinedOn n t xs)
+  joinedOn-both s t [] = refl
+  joinedOn-both s t (x ∷ xs) = joinedOn-both (m .join s (m .one x)) (n .join t (n .one x)) xs
+
+  pub summary-both : (xs : List E) → summary (both m n) xs ≡ pair (summary m xs) (summary n xs)
+  summary-both xs = joinedOn-both (m .unit) (n .unit) xs

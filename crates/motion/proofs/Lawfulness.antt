@@ -5,14 +5,17 @@ use Prim.Native.Nat.{ℕ, zero, suc, _+_, _-_, _<_, _≤_, min}
 use native.Mathlib.Omega.{arith}
 use lib.ListN.{length, getD}
 use Rattle.std.proofs.shelf.Counted.{length-map-counting, getD-map-counting}
-use Rattle.std.proofs.shelf.Lists.{getD-past, length-map, ext-getD}
+use Rattle.std.proofs.shelf.Lists.{getD-past, getD-map, length-map, ext-getD}
 use Rattle.motion.specs.declared.blocks.Block.{Block}
 use Rattle.motion.specs.Figures.{ownCap}
-use Rattle.motion.specs.Profiles.{ownAt, junctionCap, Caps, riseAt, fallAt, at, Lawful, Starts, Greatest, reverseFrom, reverseAt, greatestStart, forwardFrom, speedsTo, speedsOf, Passes}
+use Rattle.motion.specs.Profiles.{ownAt, junctionCap, Caps, fallAt, at, Lawful, Starts, Greatest, reverseFrom, reverseAt, greatestStart, forwardFrom, speedsTo, speedsOf, Passes}
 
 module _ (blocks : List Block) where
   pub own-past : (j : ℕ) → length blocks ≤ j → ownAt blocks j ≡ 0
   own-past j h = getD-past (map ownCap blocks) j 0 (omega (arith, length-map blocks ownCap))
+
+  pub own-at : (j : ℕ) (b : Block) → j < length blocks → ownAt blocks j ≡ ownCap (getD blocks j b)
+  own-at j b h = getD-map ownCap blocks j b 0 h
 
   cap-past : (n : ℕ) → ownAt blocks n ≡ 0 → junctionCap blocks n ≡ 0
   cap-past zero e = e

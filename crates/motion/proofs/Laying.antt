@@ -8,8 +8,10 @@ use lib.ListN.{length, getD, set, take, drop}
 use Rattle.std.specs.Holes.{inserted, removed}
 use Rattle.motion.specs.declared.moves.Move.{Move}
 use Rattle.motion.specs.declared.blocks.Block.{Block}
-use Rattle.motion.specs.Figures.{blockOf, targetOf, moveOf, begunAt, atPercent}
+use Rattle.motion.specs.Ranges.{ValidPosition, ValidMove}
+use Rattle.motion.specs.Figures.{blockOf, targetOf, moveOf, begunAt, atPercent, Bounded}
 use Rattle.motion.specs.Laid.{Entry, laid, overridden, idle, beginOf, blockAt, begunAgain, Edits}
+use Rattle.motion.proofs.Bounds.{figures-bounded}
 
 pub laid-length : (s : List ℤ) (es : List Entry) → length (laid s es) ≡ length es
 laid-length s [] = refl
@@ -86,6 +88,14 @@ laid-replace s (x ∷ xs) (suc i) e h =
 -- a position told by a block serves as well as the one that its move names
 pub same-begun : (b : Block) (p : List ℤ) (m : Move) (percent : ℕ) → begunAt b (targetOf (blockOf p m percent)) ≡ begunAt b (m .target)
 same-begun b p m percent = refl
+
+-- a list of entries in range has blocks whose figures are
+pub laid-bounded : (s : List ℤ) (es : List Entry) (d : Entry) → ValidPosition s → ((i : ℕ) → i < length es → ValidMove (getD es i d .move) × (getD es i d .percent ≤ 200)) → (i : ℕ) → i < length es → Bounded (getD (laid s es) i idle)
+laid-bounded s [] d v w i h = absurd (omega arith)
+laid-bounded s (x ∷ xs) d v w zero h = figures-bounded s (x .move) (x .percent) v (w 0 h .0) (w 0 h .1)
+laid-bounded s (x ∷ xs) d v w (suc i) h =
+    let first = w 0 (omega arith) in
+    laid-bounded (x .move .target) xs d (first .0 .target) (λ k l. w (suc k) (omega arith)) i (omega arith)
 
 pub edits : (s : List ℤ) (es : List Entry) → Edits s es
 edits s es = record {

@@ -6,3 +6,4 @@ pub mod Running
 pub mod Parting
 pub mod Passing
 pub mod Laying
+pub mod Boxing

@@ -1,6 +1,6 @@
 -- The passes by parts: first by plain recursions over the index, and these then as summaries of ranges.
 use mathlib.Core.Path.{_≡_, refl, sym, ap, _∙_}
-use mathlib.Core.List.{List, [], _∷_, _++_, map}
+use mathlib.Core.List.{List, [], _∷_}
 use mathlib.Core.Logic.{_↔_, inl, inr}
 use Prim.Native.Nat.{ℕ, zero, suc, _+_, _-_, _<_, _≤_, min}
 use native.Mathlib.Omega.{arith}
@@ -124,6 +124,9 @@ module _ (blocks : List Block) where
   start-by-parts =
       let e : length blocks - 0 ≡ length blocks = omega arith in
       ap (reverseFrom blocks 0) e ∙ reverse-first (length blocks) ∙ ap (down blocks 0) (sym e) ∙ sym (down-rest 0 (omega arith))
+
+  pub none-starts : (s : ℕ) → through (summary runDownRule blocks) 0 < s → Starts blocks (length blocks) s → ⊥
+  none-starts s h v = omega (arith, start-by-parts, passes blocks .starts s .0 v)
 
   -- the speed at a junction: what the blocks before it give, and what those after it allow
   pub speed-by-parts : (s j : ℕ) → s ≤ reverseAt blocks 0 → j ≤ length blocks → forwardAt blocks s j ≡ min (runUpTo blocks j s) (runDownFrom blocks j)

@@ -20,7 +20,7 @@ use Rattle.motion.specs.declared.runs.Run.{Run}
 use Rattle.motion.specs.Figures.{ownCap, cornerCap, riseOf, fallOf}
 use Rattle.motion.specs.Laid.{idle}
 use Rattle.motion.specs.Runs.{through, runDownRule, runDown-laws}
-use Rattle.motion.specs.Profiles.{ownAt, cornerAt, riseAt, fallAt, junctionCap, Caps, at, reverseFrom, reverseAt, forwardAt, greatestStart, blockedFrom, firstBlocked}
+use Rattle.motion.specs.Profiles.{ownAt, cornerAt, riseAt, fallAt, junctionCap, Caps, at, reverseFrom, reverseAt, forwardAt, greatestStart, blockedFrom}
 use Rattle.motion.proofs.Lawfulness.{caps, reverse-step, reverse-cap}
 use Rattle.motion.proofs.Parting.{own-fits, prefix-by-parts}
 
@@ -115,11 +115,11 @@ module _ (blocks : List Block) where
     rise-here : riseOf here ≡ riseAt blocks i
     rise-here = sym (getD-map riseOf blocks i idle 0 h)
 
-    pub cap-more : (v : List ℕ) (before own : ℕ) → v ≡ map (junctionCap blocks) (counting 0 i) → before ≡ limit blocks i → own ≡ ownCap here → v ++ min before own ∷ [] ≡ map (junctionCap blocks) (counting 0 (i + 1))
-    cap-more v before own e l o =
-        let cap : min before own ≡ junctionCap blocks i = ap (λ x. min x own) l ∙ ap (min (limit blocks i)) (o ∙ own-here) ∙ limit-cap i in
-        ap (λ w. w ++ min before own ∷ []) e
-        ∙ ap (λ x. map (junctionCap blocks) (counting 0 i) ++ x ∷ []) cap
+    pub cap-more : (v : List ℕ) (before cap : ℕ) → v ≡ map (junctionCap blocks) (counting 0 i) → before ≡ limit blocks i → cap ≡ min before (ownCap here) → v ++ cap ∷ [] ≡ map (junctionCap blocks) (counting 0 (i + 1))
+    cap-more v before cap e l o =
+        let same : cap ≡ junctionCap blocks i = o ∙ ap (λ x. min x (ownCap here)) l ∙ ap (min (limit blocks i)) own-here ∙ limit-cap i in
+        ap (λ w. w ++ cap ∷ []) e
+        ∙ ap (λ x. map (junctionCap blocks) (counting 0 i) ++ x ∷ []) same
         ∙ sym (map-counting-more (junctionCap blocks) 0 i i (omega arith))
 
     pub limit-more : (own corner : ℕ) → own ≡ ownCap here → corner ≡ cornerCap here → min own corner ≡ limit blocks (i + 1)

@@ -1,11 +1,12 @@
 -- A block as it is made from a move, and its figures.
+use mathlib.Core.Path.{_≡_}
 use mathlib.Core.List.{List, [], _∷_}
 use Prim.Native.Nat.{ℕ, _+_, _*_, _/_, _≤_, min, max}
 use lib.IntN.{ℤ, _-ℤ_, natAbs}
 use Rattle.kinds.specs.Sums.{top}
 use Rattle.motion.specs.declared.moves.Move.{Move}
 use Rattle.motion.specs.declared.blocks.Block.{Block}
-use Rattle.motion.specs.Ranges.{axis}
+use Rattle.motion.specs.Ranges.{axis, ValidPosition, ValidMove}
 use Rattle.motion.specs.Roots.{root}
 
 -- the square of the distance in x and y; it stops at the greatest 64-bit number, which no two positions in range reach
@@ -84,7 +85,14 @@ cornerCap b = min (b .corner * b .corner) top
 
 -- the figures of a block whose move is in range, none of which stops at the greatest 32-bit number
 pub record Bounded (b : Block) : Type 0 where
+  pub rise-is : riseOf b ≡ 2 * b .acceleration * b .length
   pub rise : riseOf b ≤ 1131368000
+  pub fall-is : fallOf b ≡ 2 * b .acceleration * b .length
   pub fall : fallOf b ≤ 1131368000
+  pub own-is : ownCap b ≡ feedOf b * feedOf b
   pub own : ownCap b ≤ 100000000
+  pub corner-is : cornerCap b ≡ b .corner * b .corner
   pub corner : cornerCap b ≤ 100000000
+
+abbrev pub FiguresBounded : Type 0
+FiguresBounded = (p : List ℤ) (m : Move) (percent : ℕ) → ValidPosition p → ValidMove m → percent ≤ 200 → Bounded (blockOf p m percent)

@@ -8,3 +8,4 @@ pub mod ByParts
 pub mod Outcomes
 pub mod Laid
 pub mod Worked
+pub mod Boxes

@@ -1,6 +1,6 @@
 -- Run-up and run-down: what a range of blocks does to a squared speed, from its start to its end and back.
 use mathlib.Core.Path.{_≡_, sym, ap, _∙_}
-use Prim.Native.Nat.{ℕ, _+_, _≤_, min}
+use Prim.Native.Nat.{ℕ, _≤_, min}
 use native.Mathlib.Omega.{arith}
 use Rattle.kinds.specs.Rules.{Rule, Laws}
 use Rattle.kinds.specs.Sums.{_⊕_, top, sum-laws}

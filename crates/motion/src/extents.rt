@@ -1,5 +1,4 @@
 // The box of the targets of blocks, and their length.
-ghost use mathlib.Core.Path.{_≡_};
 ghost use Rattle.kinds.specs.Models.{fits32};
 ghost use Rattle.motion.specs.Extents.{reachRule, fitsExtent, reach-laws, spanRule, span-laws};
 use crate::blocks::Block;

@@ -1,18 +1,21 @@
 // The two passes over a list of blocks: caps of junctions, then back from the end, then on from the start.
 ghost use mathlib.Core.List.{map};
 ghost use mathlib.Core.Path.{_≡_};
-ghost use Prim.Native.Nat.{suc};
+ghost use Prim.Native.Nat.{suc, min};
 ghost use lib.Dec.{T, leb};
 ghost use lib.ListN.{length};
 ghost use Rattle.std.specs.Iters.{counting};
 ghost use Rattle.std.specs.Of.Vec.{vec-items};
 ghost use Rattle.std.specs.Vec.{made};
-ghost use Rattle.motion.specs.Profiles.{junctionCap, junctionCaps, Caps, at, reverseAt, speedsOf, firstBlocked, planned, Right, Passes, Prefixes};
+ghost use Rattle.kinds.specs.Sums.{_⊕_};
+ghost use Rattle.motion.specs.Figures.{ownCap};
+ghost use Rattle.motion.specs.Profiles.{junctionCaps, Caps, at, reverseAt, speedsOf, firstBlocked, planned, Right, Passes, Prefixes};
 ghost use Rattle.motion.specs.Outcomes.{outcomeOf};
 use crate::blocks::Block;
 use crate::runs::RunDown;
 use crate::runs::RunDownKind;
 use kinds::Kind;
+use kinds::saturating_sum;
 use std::alloc::AllocError;
 use std::alloc::Global;
 
@@ -25,6 +28,20 @@ pub enum Profile {
     Blocked(usize),
 }
 
+// The cap of a junction, from what the block before it allows there and the block after it.
+fn junction_cap(before: u32, next: &Block) -> u32
+    ensures { λ r. ⌜ r ≡ min before (ownCap (now (next .entry))) ⌝ }
+{
+    before.min(next.own_cap())
+}
+
+// One step of a pass: what the change along a block makes of a speed, under a bound.
+fn next_speed(bound: u32, speed: u32, change: u32) -> u32
+    ensures { λ r. ⌜ r ≡ min bound (speed ⊕ change) ⌝ }
+{
+    bound.min(saturating_sum(speed, change))
+}
+
 // The cap of each junction, of which there is one more than of blocks.
 pub fn junction_caps(heap: Global, blocks: &[Block]) -> Result<Vec<u32>, AllocError>
     ensures value { λ r. ⌜ made r (λ v. vec-items v ≡ junctionCaps (now (blocks .entry))) ⌝ }
@@ -33,9 +50,8 @@ pub fn junction_caps(heap: Global, blocks: &[Block]) -> Result<Vec<u32>, AllocEr
     let mut caps = Vec::new(heap);
     let mut before = u32::MAX;
     for block in blocks {
-        let own = block.own_cap();
-        caps.push(before.min(own))?;
-        before = own.min(block.corner_cap());
+        caps.push(junction_cap(before, block))?;
+        before = block.own_cap().min(block.corner_cap());
     }
     caps.push(0)?;
     Ok(caps)
@@ -47,8 +63,7 @@ fn reverse_pass(speeds: &mut [u32], blocks: &[Block])
     ensures { λ _. ⌜ now (speeds .exit) ≡ map (reverseAt (now (blocks .entry))) (counting 0 (suc (length (now (blocks .entry))))) ⌝ }
 {
     for j in (0..blocks.len()).rev() {
-        let fallen = speeds[j + 1].saturating_add(blocks[j].fall());
-        speeds[j] = speeds[j].min(fallen);
+        speeds[j] = next_speed(speeds[j], speeds[j + 1], blocks[j].fall());
     }
 }
 
@@ -59,8 +74,7 @@ fn forward_pass(speeds: &mut [u32], blocks: &[Block], start: u32)
 {
     speeds[0] = start;
     for j in 0..blocks.len() {
-        let risen = speeds[j].saturating_add(blocks[j].rise());
-        speeds[j + 1] = speeds[j + 1].min(risen);
+        speeds[j + 1] = next_speed(speeds[j + 1], speeds[j], blocks[j].rise());
     }
 }
 

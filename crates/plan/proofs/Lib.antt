@@ -3,3 +3,6 @@ mod Begins
 mod Accepted
 mod Following
 mod Editing
+mod Overriding
+mod Asking
+mod Junctions

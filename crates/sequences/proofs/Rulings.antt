@@ -1,7 +1,7 @@
 -- What the rules of a list come to once it is known which case there is.
 use mathlib.Core.Path.{_≡_, refl, sym, ap, _∙_}
 use mathlib.Core.List.{List, [], _∷_, _++_}
-use mathlib.Core.Bool.{cond}
+use mathlib.Core.Bool.{Bool, true, false, cond}
 use mathlib.Core.Logic.{⊎-elim}
 use Prim.Native.Nat.{ℕ, zero, suc, _+_, _-_, _<_, _≤_, suc-le-suc, zero-le}
 use native.Mathlib.Omega.{arith}
@@ -116,3 +116,25 @@ place-accepted xs i told =
     (λ within. within)
     (λ past. absurd (not-both (sym told ∙ place-none xs i past)))
     (cases-lt i (length xs))
+
+-- a range that was accepted is there, and one that was refused is refused whatever would be told of it
+module _ {E : Type 0} (why : Refusal) (xs : List E) (i j : ℕ) where
+  pub range-accepted : ranged {X = Unit {0}} why xs i j tt ≡ Ok tt → (i ≤ j) × (j ≤ length xs)
+  range-accepted told =
+      ⊎-elim
+      (λ back. absurd (not-both (sym told ∙ ap (λ t. cond t (Err why) (cond (ltb (length xs) j) (Err why) (Ok tt))) back)))
+      (λ order.
+      let told-on = sym (ap (λ t. cond t (Err why) (cond (ltb (length xs) j) (Err why) (Ok tt))) order) ∙ told in
+      ⊎-elim
+      (λ past. absurd (not-both (sym told-on ∙ ap (λ t. cond t (Err why) (Ok tt)) past)))
+      (λ within. (ltb-false j i order, ltb-false (length xs) j within))
+      (cases-bool (ltb (length xs) j)))
+      (cases-bool (ltb j i))
+
+  by-cases : {Y : Type 0} (y : Y) (given : Refusal) (b c : Bool) → _≡_ {A = Result (Unit {0}) Refusal} (cond b (Err why) (cond c (Err why) (Ok tt))) (Err given) → _≡_ {A = Result Y Refusal} (cond b (Err why) (cond c (Err why) (Ok y))) (Err given)
+  by-cases y given true c e = let same : why ≡ given = cc in ap Err same
+  by-cases y given false true e = let same : why ≡ given = cc in ap Err same
+  by-cases y given false false e = absurd (not-both e)
+
+  pub range-refused : {X : Type 0} (x : X) (given : Refusal) → ranged {X = Unit {0}} why xs i j tt ≡ Err given → ranged why xs i j x ≡ Err given
+  range-refused x given told = by-cases x given (ltb j i) (ltb (length xs) j) told

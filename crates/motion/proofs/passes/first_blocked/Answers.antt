@@ -1,8 +1,8 @@
 use mathlib.Core.Path.{_≡_, ap, sym, _∙_}
-use Prim.Native.Nat.{_-_, _<_, _≤_}
+use Prim.Native.Nat.{_-_}
 use native.Mathlib.Omega.{arith}
 use lib.ListN.{length}
-use Rattle.motion.specs.Profiles.{blockedFrom, firstBlocked}
+use Rattle.motion.specs.Profiles.{blockedFrom}
 use Rattle.motion.specs.Runs.{through, runDownRule}
 use Rattle.motion.proofs.Passing.{blocked-here, blocked-on, run-more}
 use Rattle.motion.proofs.passes.first_blocked.Needs as need

@@ -1,9 +1,9 @@
-use mathlib.Core.Path.{_≡_, refl, ap, _∙_}
-use Prim.Native.Nat.{_+_, _-_, _≤_, _<_, min}
+use mathlib.Core.Path.{_≡_, refl, _∙_}
+use Prim.Native.Nat.{_+_}
 use native.Mathlib.Omega.{arith}
 use lib.ListN.{length, getD}
 use Rattle.motion.specs.Profiles.{forwardAt, reverseAt}
-use Rattle.motion.proofs.Passing.{Split, filled-from, filled-all, split-up, forward-next}
+use Rattle.motion.proofs.Passing.{filled-from, filled-all, split-up, forward-next}
 use Rattle.motion.proofs.passes.forward_pass.Needs as need
 
 pub loop-j-holds : need.loop-j-holds
@@ -18,11 +18,10 @@ loop-j-again c =
     let j = c .loop-j .j in
     let v = c .loop-j .speeds in
     let inv = c .loop-j .inv in
-    let least : c .min .result ≡ forwardAt blocks (c .args .start) (j + 1) =
-    c .min .ensures
-    ∙ ap (min (getD v (j + 1) 0)) (c .saturating-add-risen .ensures)
+    let least : c .next-speed .result ≡ forwardAt blocks (c .args .start) (j + 1) =
+    c .next-speed .ensures
     ∙ forward-next blocks j (omega arith) (c .args .start) (getD v (j + 1) 0) (getD v j 0) (c .rise .result) (inv .2 (j + 1) (omega arith) (omega arith)) (inv .1 j (omega arith) (omega arith)) (c .rise .ensures) in
-    split-up (forwardAt blocks (c .args .start)) (reverseAt blocks) (length blocks) (j + 1) (c .min .result) v (omega arith) inv least
+    split-up (forwardAt blocks (c .args .start)) (reverseAt blocks) (length blocks) (j + 1) (c .next-speed .result) v (omega arith) inv least
 
 pub returns : need.returns
 returns c =

@@ -1,14 +1,11 @@
 use borrow.Author.Needs.{needs}
 use mathlib.Core.Path.{_≡_, sym, ap, subst, _∙_}
-use mathlib.Core.Bool.{true, false}
-use mathlib.Core.List.{List}
-use Prim.Native.Nat.{ℕ}
+use mathlib.Core.Bool.{true}
 use native.Mathlib.Omega.{arith}
 use lib.Dec.{T, leb}
-use lib.ListN.{length, take}
 use Rattle.std.proofs.shelf.Lists.{take-at}
 use Rattle.std.proofs.shelf.Tests.{cond-true, cond-false}
-use Rattle.motion.specs.Profiles.{reverseAt, speedsOf, firstBlocked, Outcome, driven, refused, planned, Right}
+use Rattle.motion.specs.Profiles.{reverseAt, speedsOf, firstBlocked, driven, refused, Right}
 use Rattle.motion.proofs.Lawfulness.{passes}
 use Rattle.motion.proofs.Blocking.{planned-right, prefixes}
 use Rattle.motion.proofs.passes.plan_speeds.Needs as need

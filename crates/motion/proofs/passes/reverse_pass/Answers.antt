@@ -1,11 +1,10 @@
 use mathlib.Core.Path.{_≡_, ap, sym, _∙_}
-use Prim.Native.Nat.{_+_, _-_, _≤_, _<_, min}
+use Prim.Native.Nat.{_+_, _-_}
 use native.Mathlib.Omega.{arith}
 use lib.ListN.{length, getD}
-use Rattle.kinds.specs.Sums.{_⊕_}
 use Rattle.motion.specs.Profiles.{junctionCap, reverseAt}
 use Rattle.motion.proofs.Lawfulness.{passes}
-use Rattle.motion.proofs.Passing.{Split, Filled, filled-from, filled-all, split-down, reverse-next}
+use Rattle.motion.proofs.Passing.{Split, filled-from, filled-all, split-down, reverse-next}
 use Rattle.motion.proofs.passes.reverse_pass.Needs as need
 
 pub loop-j-holds : need.loop-j-holds
@@ -27,11 +26,10 @@ loop-j-again c =
     let inv = c .loop-j .inv in
     let more : c .loop-j .j ≡ j + 1 = omega arith in
     let before : Split (junctionCap blocks) (reverseAt blocks) n (j + 1) v = (inv .0, λ k l m. inv .1 k (omega arith) m, λ k l m. inv .2 k (omega arith) m) in
-    let least : c .min .result ≡ reverseAt blocks j =
-    c .min .ensures
-    ∙ ap (min (getD v j 0)) (c .saturating-add-fallen .ensures)
+    let least : c .next-speed .result ≡ reverseAt blocks j =
+    c .next-speed .ensures
     ∙ reverse-next blocks j (omega arith) (getD v j 0) (getD v (j + 1) 0) (c .fall .result) (inv .1 j (omega arith) (omega arith)) (inv .2 (j + 1) (omega arith) (omega arith)) (c .fall .ensures) in
-    split-down (junctionCap blocks) (reverseAt blocks) n j (c .min .result) v (omega arith) before least
+    split-down (junctionCap blocks) (reverseAt blocks) n j (c .next-speed .result) v (omega arith) before least
 
 pub returns : need.returns
 returns c =

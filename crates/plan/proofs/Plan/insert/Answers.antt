@@ -85,7 +85,7 @@ returns g c =
     let asked = c .begin-of .ensures .same in
     let begin = begins-at (startOf here) xs i _ (ap (λ z. beginAnswer (startOf z) (s .list (z .blocks)) i) asked ∙ sym (c .begin-of .ensures .value) ∙ c .in-Continue-begin .was tt) in
     let made = c .begin-next .ensures .after
-    ∙ ap (λ ys. begunAgain ys (suc i) (m .target)) (c .insert .ensures .after ∙ ap (insertList xs (s .room (here .blocks)) i) (c .new .ensures .value ∙ ap (λ z. blockOf z m 100) begin)) in
+    ∙ ap (λ ys. begunAgain ys (suc i) (m .target)) (c .insert .ensures .after ∙ ap (insertList xs (s .room (here .blocks)) i) (c .new .ensures ∙ ap (λ z. blockOf z m 100) begin)) in
     record {
       model = follows-from (s .list) (s .room) (s .told) answer _ p here end (Ok tt) asked
           (follows-accepted (s .list) (s .room) (s .told) answer altered here end (Ok tt) tt refl
