@@ -21,7 +21,7 @@ use Rattle.motion.specs.Figures.{ownCap, cornerCap, riseOf, fallOf}
 use Rattle.motion.specs.Laid.{idle}
 use Rattle.motion.specs.Runs.{through, runDownRule, runDown-laws}
 use Rattle.motion.specs.Profiles.{ownAt, cornerAt, riseAt, fallAt, junctionCap, Caps, at, reverseFrom, reverseAt, forwardAt, greatestStart, blockedFrom}
-use Rattle.motion.proofs.Lawfulness.{caps, reverse-step, reverse-cap}
+use Rattle.motion.proofs.Lawfulness.{own-at, caps, reverse-step, reverse-cap}
 use Rattle.motion.proofs.Parting.{own-fits, prefix-by-parts}
 
 -- a list of speeds that has f at each junction up to n
@@ -104,7 +104,7 @@ module _ (blocks : List Block) where
     here = getD blocks i idle
 
     own-here : ownCap here ≡ ownAt blocks i
-    own-here = sym (getD-map ownCap blocks i idle 0 h)
+    own-here = sym (own-at blocks i idle h)
 
     corner-here : cornerCap here ≡ cornerAt blocks i
     corner-here = sym (getD-map cornerCap blocks i idle 0 h)

@@ -36,7 +36,10 @@ all-set [] i e v p = tt
 all-set (x ∷ xs) zero e v (w, p) = (v, p)
 all-set (x ∷ xs) (suc i) e v (w, p) = (w, all-set xs i e v p)
 
+pub all-between : (xs : List Entry) (i j : ℕ) → AllValid xs → AllValid (between i j xs)
+all-between xs i j p = all-take _ (drop i xs) (all-drop i xs p)
+
 pub all-changed : (f : Entry → Entry) → ((e : Entry) → ValidEntry e → ValidEntry (f e)) → (xs : List Entry) (i j : ℕ) → AllValid xs → AllValid (changedIn f xs i j)
 all-changed f keeps xs i j p =
     all-append (take i xs) _ (all-take i xs p)
-    (all-append (map f (between i j xs)) (drop j xs) (all-map f keeps (between i j xs) (all-take _ (drop i xs) (all-drop i xs p))) (all-drop j xs p))
+    (all-append (map f (between i j xs)) (drop j xs) (all-map f keeps (between i j xs) (all-between xs i j p)) (all-drop j xs p))

@@ -20,7 +20,7 @@ use Rattle.plan.specs.Keeping.{Keeps}
 use Rattle.plan.specs.Models.{Model, blocksOf, boxOf, noRange, planRule}
 use Rattle.plan.proofs.Editing.{same-length}
 
-some-box : (xs : List Block) → 0 < length xs → boxOf xs ≡ Some (summary reachRule xs)
+pub some-box : (xs : List Block) → 0 < length xs → boxOf xs ≡ Some (summary reachRule xs)
 some-box [] h = absurd (omega arith)
 some-box (x ∷ xs) h = refl
 

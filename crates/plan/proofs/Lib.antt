@@ -6,3 +6,4 @@ mod Editing
 mod Overriding
 mod Asking
 mod Junctions
+mod Extents

@@ -9,7 +9,7 @@ ghost use Rattle.motion.specs.Profiles.{Starts, firstBlocked, ownAt};
 ghost use Rattle.motion.specs.Runs.{runUpRule, runDownRule};
 ghost use Rattle.plan.specs.Keeping.{Keeps, Follows};
 ghost use Rattle.plan.specs.Models.{Model, blocksOf, noRange, planRule, junctionTold, reachTold, spanTold};
-ghost use Rattle.plan.specs.Promises.{JunctionRight};
+ghost use Rattle.plan.specs.Promises.{JunctionRight, ReachRight, SpanRight};
 ghost use Rattle.sequences.specs.Lists.{ranged};
 ghost use Rattle.std.specs.Holes.{between};
 use crate::NO_RANGE;
@@ -132,6 +132,7 @@ impl<S: Sequence<Element = Block, Summary = Summary, Kind = PlanKind>> Plan<S> {
     // The box of the targets of a range, or none where the range is empty.
     pub fn reach(&mut self, i: u16, j: u16) -> Result<Option<Extent>, Refusal>
         ensures model { λ r. ⌜ Follows (S·Sequence .list) (S·Sequence .room) (S·Sequence .told) (λ b. reachTold b i j) (λ b. b) (now (self .entry)) (now (self .exit)) r ⌝ }
+        ensures right { λ r. ⌜ ((b : Model) → Keeps (S·Sequence .list) (S·Sequence .room) (S·Sequence .told) b (now (self .entry)) → ReachRight (blocksOf b) i j r) ⌝ }
         ensures same { λ _. ⌜ now (self .exit) ≡ now (self .entry) ⌝ }
     {
         self.check_range(i, j)?;
@@ -144,6 +145,7 @@ impl<S: Sequence<Element = Block, Summary = Summary, Kind = PlanKind>> Plan<S> {
     // The length of a range.
     pub fn span(&mut self, i: u16, j: u16) -> Result<u32, Refusal>
         ensures model { λ r. ⌜ Follows (S·Sequence .list) (S·Sequence .room) (S·Sequence .told) (λ b. spanTold b i j) (λ b. b) (now (self .entry)) (now (self .exit)) r ⌝ }
+        ensures right { λ r. ⌜ ((b : Model) → Keeps (S·Sequence .list) (S·Sequence .room) (S·Sequence .told) b (now (self .entry)) → SpanRight (blocksOf b) i j r) ⌝ }
         ensures same { λ _. ⌜ now (self .exit) ≡ now (self .entry) ⌝ }
     {
         self.check_range(i, j)?;

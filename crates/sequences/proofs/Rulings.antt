@@ -138,3 +138,13 @@ module _ {E : Type 0} (why : Refusal) (xs : List E) (i j : ℕ) where
 
   pub range-refused : {X : Type 0} (x : X) (given : Refusal) → ranged {X = Unit {0}} why xs i j tt ≡ Err given → ranged why xs i j x ≡ Err given
   range-refused x given told = by-cases x given (ltb j i) (ltb (length xs) j) told
+
+  pub range-nowhere : {X : Type 0} (x : X) → (i ≤ j → j ≤ length xs → ⊥) → ranged why xs i j x ≡ Err why
+  range-nowhere x never =
+      ⊎-elim
+      (λ back. ap (λ t. cond t (Err why) (cond (ltb (length xs) j) (Err why) (Ok x))) (lt-ltb j i back))
+      (λ order. ⊎-elim
+        (λ past. ap (λ t. cond t (Err why) (cond (ltb (length xs) j) (Err why) (Ok x))) (le-ltb j i order) ∙ ap (λ t. cond t (Err why) (Ok x)) (lt-ltb (length xs) j past))
+        (λ within. absurd (never order within))
+        (cases-lt (length xs) j))
+      (cases-lt j i)
