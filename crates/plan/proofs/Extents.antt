@@ -57,11 +57,12 @@ module _ (b : Model) (i j : ℕ) where
         nowhere = λ never. range-nowhere noRange (b .entries) i j _ (λ order within. never order (omega (arith, long)));
         empty = λ same within. told (omega arith) within ∙ ap (λ k. Ok (boxOf (between i k (blocksOf b)))) (sym same) ∙ ap (λ none. Ok (boxOf none)) (between-none (blocksOf b) i);
         boxed = λ order within.
-          let boxes = laid-boxed (endOf (b .start) (take i (b .entries))) (between i j (b .entries)) (all-between (b .entries) i j valid) in
-          let some : 0 < length (between i j (blocksOf b)) = omega (arith, length-between (blocksOf b) i j within) in
-          (summary reachRule (between i j (blocksOf b)),
-          subst (λ xs. Box xs (summary reachRule xs)) (sym (laid-between (b .start) (b .entries) i j)) boxes,
-          told (omega arith) within ∙ ap Ok (some-box (between i j (blocksOf b)) some));
+            let boxes = laid-boxed (endOf (b .start) (take i (b .entries))) (between i j (b .entries)) (all-between (b .entries) i j valid) in
+            let some : 0 < length (between i j (blocksOf b)) = omega (arith, length-between (blocksOf b) i j within) in (
+              summary reachRule (between i j (blocksOf b)),
+              subst (λ xs. Box xs (summary reachRule xs)) (sym (laid-between (b .start) (b .entries) i j)) boxes,
+              told (omega arith) within ∙ ap Ok (some-box (between i j (blocksOf b)) some),
+            );
       }
 
   pub span-right : SpanRight (blocksOf b) i j (spanTold b i j)

@@ -7,3 +7,4 @@ mod Overriding
 mod Asking
 mod Junctions
 mod Extents
+mod Running

@@ -1,3 +1,4 @@
 pub mod Models
 pub mod Keeping
 pub mod Promises
+pub mod Calls

@@ -11,6 +11,7 @@ use refusals::Layer;
 use refusals::Refusal;
 use sequences::Sequence;
 
+pub mod calls;
 pub mod edits;
 pub mod questions;
 pub mod summaries;

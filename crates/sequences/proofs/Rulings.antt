@@ -144,7 +144,7 @@ module _ {E : Type 0} (why : Refusal) (xs : List E) (i j : ℕ) where
       ⊎-elim
       (λ back. ap (λ t. cond t (Err why) (cond (ltb (length xs) j) (Err why) (Ok x))) (lt-ltb j i back))
       (λ order. ⊎-elim
-        (λ past. ap (λ t. cond t (Err why) (cond (ltb (length xs) j) (Err why) (Ok x))) (le-ltb j i order) ∙ ap (λ t. cond t (Err why) (Ok x)) (lt-ltb (length xs) j past))
-        (λ within. absurd (never order within))
-        (cases-lt (length xs) j))
+      (λ past. ap (λ t. cond t (Err why) (cond (ltb (length xs) j) (Err why) (Ok x))) (le-ltb j i order) ∙ ap (λ t. cond t (Err why) (Ok x)) (lt-ltb (length xs) j past))
+      (λ within. absurd (never order within))
+      (cases-lt (length xs) j))
       (cases-lt j i)

@@ -25,9 +25,9 @@ returns-in-Break-check-range g c =
     let r = c .from-residual .result in
     let why = c .in-Break-check-range .field-0 .0 in
     let tells = λ (b : Model) (k : Keeps (s .list) (s .room) (s .told) b p).
-        passed-up r why (c .from-residual .ensures .1)
-        ∙ sym (range-refused noRange (s .list (p .blocks)) i j (boxOf (between i j (blocksOf b))) why (sym (c .check-range .ensures .value) ∙ c .in-Break-check-range .was tt))
-        ∙ ranged-kept (s .list) (s .room) (s .told) b p k i j _ in
+    passed-up r why (c .from-residual .ensures .1)
+    ∙ sym (range-refused noRange (s .list (p .blocks)) i j (boxOf (between i j (blocksOf b))) why (sym (c .check-range .ensures .value) ∙ c .in-Break-check-range .was tt))
+    ∙ ranged-kept (s .list) (s .room) (s .told) b p k i j _ in
     record {
       model = follows-question (s .list) (s .room) (s .told) (λ (b : Model). reachTold b i j) p _ r (c .check-range .ensures .same) tells;
       right = λ b k. subst (ReachRight (blocksOf b) i j) (sym (tells b k)) (reach-right b i j (k .entries));
@@ -42,9 +42,9 @@ returns-then-i-j g c =
     let j = c .args .j in
     let there = range-accepted noRange (s .list (p .blocks)) i j (sym (c .check-range .ensures .value) ∙ c .in-Continue-check-range .was tt) in
     let tells = λ (b : Model) (k : Keeps (s .list) (s .room) (s .told) b p).
-        ap (λ z. Ok (boxOf z)) (sym (between-none (blocksOf b) i)) ∙ ap (λ z. Ok (boxOf (between i z (blocksOf b)))) (c .if-i-j .taken)
-        ∙ sym (range-there noRange (s .list (p .blocks)) i j _ (there .0) (there .1))
-        ∙ ranged-kept (s .list) (s .room) (s .told) b p k i j _ in
+    ap (λ z. Ok (boxOf z)) (sym (between-none (blocksOf b) i)) ∙ ap (λ z. Ok (boxOf (between i z (blocksOf b)))) (c .if-i-j .taken)
+    ∙ sym (range-there noRange (s .list (p .blocks)) i j _ (there .0) (there .1))
+    ∙ ranged-kept (s .list) (s .room) (s .told) b p k i j _ in
     record {
       model = follows-question (s .list) (s .room) (s .told) (λ (b : Model). reachTold b i j) p _ (Ok None) (c .check-range .ensures .same) tells;
       right = λ b k. subst (ReachRight (blocksOf b) i j) (sym (tells b k)) (reach-right b i j (k .entries));
@@ -62,12 +62,12 @@ returns g c =
     let same = c .range-summary .ensures .same ∙ asked in
     let there = range-accepted noRange (s .list (p .blocks)) i j (sym (c .check-range .ensures .value) ∙ c .in-Continue-check-range .was tt) in
     let tells = λ (b : Model) (k : Keeps (s .list) (s .room) (s .told) b p).
-        let here-keeps : Keeps (s .list) (s .room) (s .told) b here = subst (Keeps (s .list) (s .room) (s .told) b) (sym asked) k in
-        ap (λ z. Ok (Some (z .second .first))) (c .range-summary .ensures .value (here-keeps .sums))
-        ∙ ap (λ z. Ok (Some z)) (reach-part (between i j (s .list (here .blocks))) ∙ ap (λ xs. summary reachRule (between i j xs)) (here-keeps .holds))
-        ∙ ap Ok (sym (box-some (s .list) (s .room) (s .told) b p k i j (omega (arith, there .0, c .if-i-j .left)) (there .1)))
-        ∙ sym (range-there noRange (s .list (p .blocks)) i j _ (there .0) (there .1))
-        ∙ ranged-kept (s .list) (s .room) (s .told) b p k i j _ in
+    let here-keeps : Keeps (s .list) (s .room) (s .told) b here = subst (Keeps (s .list) (s .room) (s .told) b) (sym asked) k in
+    ap (λ z. Ok (Some (z .second .first))) (c .range-summary .ensures .value (here-keeps .sums))
+    ∙ ap (λ z. Ok (Some z)) (reach-part (between i j (s .list (here .blocks))) ∙ ap (λ xs. summary reachRule (between i j xs)) (here-keeps .holds))
+    ∙ ap Ok (sym (box-some (s .list) (s .room) (s .told) b p k i j (omega (arith, there .0, c .if-i-j .left)) (there .1)))
+    ∙ sym (range-there noRange (s .list (p .blocks)) i j _ (there .0) (there .1))
+    ∙ ranged-kept (s .list) (s .room) (s .told) b p k i j _ in
     record {
       model = follows-question (s .list) (s .room) (s .told) (λ (b : Model). reachTold b i j) p _ _ same tells;
       right = λ b k. subst (ReachRight (blocksOf b) i j) (sym (tells b k)) (reach-right b i j (k .entries));

@@ -22,9 +22,9 @@ returns-in-Break-check-range g c =
     let r = c .from-residual .result in
     let why = c .in-Break-check-range .field-0 .0 in
     let tells = λ (b : Model) (k : Keeps (s .list) (s .room) (s .told) b p).
-        passed-up r why (c .from-residual .ensures .1)
-        ∙ sym (range-refused noRange (s .list (p .blocks)) i j (summary spanRule (between i j (blocksOf b))) why (sym (c .check-range .ensures .value) ∙ c .in-Break-check-range .was tt))
-        ∙ ranged-kept (s .list) (s .room) (s .told) b p k i j _ in
+    passed-up r why (c .from-residual .ensures .1)
+    ∙ sym (range-refused noRange (s .list (p .blocks)) i j (summary spanRule (between i j (blocksOf b))) why (sym (c .check-range .ensures .value) ∙ c .in-Break-check-range .was tt))
+    ∙ ranged-kept (s .list) (s .room) (s .told) b p k i j _ in
     record {
       model = follows-question (s .list) (s .room) (s .told) (λ (b : Model). spanTold b i j) p _ r (c .check-range .ensures .same) tells;
       right = λ b k. subst (SpanRight (blocksOf b) i j) (sym (tells b k)) (span-right b i j);
@@ -42,11 +42,11 @@ returns g c =
     let same = c .range-summary .ensures .same ∙ asked in
     let there = range-accepted noRange (s .list (p .blocks)) i j (sym (c .check-range .ensures .value) ∙ c .in-Continue-check-range .was tt) in
     let tells = λ (b : Model) (k : Keeps (s .list) (s .room) (s .told) b p).
-        let here-keeps : Keeps (s .list) (s .room) (s .told) b here = subst (Keeps (s .list) (s .room) (s .told) b) (sym asked) k in
-        ap (λ z. Ok (z .second .second)) (c .range-summary .ensures .value (here-keeps .sums))
-        ∙ ap Ok (span-part (between i j (s .list (here .blocks))) ∙ ap (λ xs. summary spanRule (between i j xs)) (here-keeps .holds))
-        ∙ sym (range-there noRange (s .list (p .blocks)) i j _ (there .0) (there .1))
-        ∙ ranged-kept (s .list) (s .room) (s .told) b p k i j _ in
+    let here-keeps : Keeps (s .list) (s .room) (s .told) b here = subst (Keeps (s .list) (s .room) (s .told) b) (sym asked) k in
+    ap (λ z. Ok (z .second .second)) (c .range-summary .ensures .value (here-keeps .sums))
+    ∙ ap Ok (span-part (between i j (s .list (here .blocks))) ∙ ap (λ xs. summary spanRule (between i j xs)) (here-keeps .holds))
+    ∙ sym (range-there noRange (s .list (p .blocks)) i j _ (there .0) (there .1))
+    ∙ ranged-kept (s .list) (s .room) (s .told) b p k i j _ in
     record {
       model = follows-question (s .list) (s .room) (s .told) (λ (b : Model). spanTold b i j) p _ _ same tells;
       right = λ b k. subst (SpanRight (blocksOf b) i j) (sym (tells b k)) (span-right b i j);
