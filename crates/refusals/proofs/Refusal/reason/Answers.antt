@@ -25,3 +25,21 @@ returns-in-Speed c = sym (ap reasonOf (c .in-Speed .is))
 
 pub returns-in-Blocked : need.returns-in-Blocked
 returns-in-Blocked c = sym (ap reasonOf (c .in-Blocked .is))
+
+pub returns-in-Buffer : need.returns-in-Buffer
+returns-in-Buffer c = sym (ap reasonOf (c .in-Buffer .is))
+
+pub returns-in-Cut : need.returns-in-Cut
+returns-in-Cut c = sym (ap reasonOf (c .in-Cut .is))
+
+pub returns-in-Tag : need.returns-in-Tag
+returns-in-Tag c = sym (ap reasonOf (c .in-Tag .is))
+
+pub returns-in-FieldLength : need.returns-in-FieldLength
+returns-in-FieldLength c = sym (ap reasonOf (c .in-FieldLength .is))
+
+pub returns-in-EndByte : need.returns-in-EndByte
+returns-in-EndByte c = sym (ap reasonOf (c .in-EndByte .is))
+
+pub returns-in-Trailing : need.returns-in-Trailing
+returns-in-Trailing c = sym (ap reasonOf (c .in-Trailing .is))
