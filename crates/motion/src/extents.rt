@@ -4,6 +4,7 @@ ghost use Rattle.motion.specs.Extents.{reachRule, fitsExtent, reach-laws, span
 use crate::blocks::Block;
 use kinds::Kind;
 use kinds::saturating_sum;
+use std::fmt;
 
 // The least and the greatest target coordinate of each axis; where there is no block, the least is above the greatest.
 #[derive(Clone, Copy, PartialEq, Eq, Debug)]
@@ -14,6 +15,23 @@ pub struct Extent {
     pub greatest_y: i32,
     pub least_z: i32,
     pub greatest_z: i32,
+}
+
+pub impl fmt::Display for Extent as ExtentDisplay {
+    fn fmt<W: fmt::Write>(&self, f: &mut fmt::Formatter<W>) -> fmt::Result {
+        let Extent {
+            least_x,
+            greatest_x,
+            least_y,
+            greatest_y,
+            least_z,
+            greatest_z,
+        } = *self;
+        write!(
+            f,
+            "x {least_x} to {greatest_x}, y {least_y} to {greatest_y}, z {least_z} to {greatest_z}"
+        )
+    }
 }
 
 pub struct Reach {}

@@ -4,6 +4,7 @@ ghost use mathlib.Core.Logic.{_↔_};
 ghost use Rattle.std.specs.declared.result.Result.the-variants.{Ok};
 ghost use Rattle.motion.specs.Ranges.{positionFits, checkPosition, ValidPosition, ratesFit, checkMove, ValidMove};
 use refusals::Refusal;
+use std::fmt;
 
 // The greatest coordinates either way: x and y in millimetres, z in hundredths of one.
 const MOST_XY: u32 = 100_000;
@@ -66,5 +67,15 @@ impl Move {
             && 1 <= self.feed
             && self.feed <= MOST_FEED
             && self.corner <= MOST_CORNER
+    }
+}
+
+pub impl fmt::Display for Move as MoveDisplay {
+    fn fmt<W: fmt::Write>(&self, f: &mut fmt::Formatter<W>) -> fmt::Result {
+        let [x, y, z] = self.target;
+        let acceleration = self.acceleration;
+        let feed = self.feed;
+        let corner = self.corner;
+        write!(f, "({x}, {y}, {z}) a {acceleration} f {feed} r {corner}")
     }
 }

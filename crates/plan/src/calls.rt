@@ -14,6 +14,8 @@ use crate::summaries::Summary;
 use motion::Block;
 use motion::Extent;
 use motion::Move;
+use motion::extents::ExtentDisplay;
+use motion::moves::MoveDisplay;
 use refusals::Refusal;
 use refusals::RefusalDisplay;
 use sequences::Sequence;
@@ -35,12 +37,49 @@ pub enum Call {
     Span(u16, u16),
 }
 
+pub impl fmt::Display for Call as CallDisplay {
+    fn fmt<W: fmt::Write>(&self, f: &mut fmt::Formatter<W>) -> fmt::Result {
+        match *self {
+            Call::Insert(i, m) => write!(f, "insert at {i} to {m}"),
+            Call::Replace(i, m) => write!(f, "replace {i} by {m}"),
+            Call::Delete(i) => write!(f, "delete {i}"),
+            Call::Override(i, j, percent) => write!(
+                f,
+                "override from {i} to {j} at {percent} percent"
+            ),
+            Call::Start(position) => {
+                let [x, y, z] = position;
+                write!(f, "start at ({x}, {y}, {z})")
+            }
+            Call::Junction(j, s) => write!(f, "junction {j} from {s}"),
+            Call::Reach(i, j) => write!(f, "reach from {i} to {j}"),
+            Call::Span(i, j) => write!(f, "span from {i} to {j}"),
+        }
+    }
+}
+
 #[derive(Clone, Copy)]
 pub enum Answer {
     Edit(Result<(), Refusal>),
     Speed(Result<u32, Refusal>),
     Extent(Result<Option<Extent>, Refusal>),
     Length(Result<u32, Refusal>),
+}
+
+pub impl fmt::Display for Answer as AnswerDisplay {
+    fn fmt<W: fmt::Write>(&self, f: &mut fmt::Formatter<W>) -> fmt::Result {
+        match self {
+            Answer::Edit(Ok(())) => f.write_str("ok"),
+            Answer::Speed(Ok(speed)) => write!(f, "{speed}"),
+            Answer::Extent(Ok(None)) => f.write_str("none"),
+            Answer::Extent(Ok(Some(extent))) => write!(f, "{extent}"),
+            Answer::Length(Ok(length)) => write!(f, "{length}"),
+            Answer::Edit(Err(why)) => write!(f, "refused {why}"),
+            Answer::Speed(Err(why)) => write!(f, "refused {why}"),
+            Answer::Extent(Err(why)) => write!(f, "refused {why}"),
+            Answer::Length(Err(why)) => write!(f, "refused {why}"),
+        }
+    }
 }
 
 impl<S: Sequence<Element = Block, Summary = Summary, Kind = PlanKind>> Plan<S> {

@@ -12,6 +12,7 @@ use refusals::Refusal;
 use sequences::Sequence;
 
 pub mod calls;
+pub mod depth;
 pub mod edits;
 pub mod questions;
 pub mod summaries;

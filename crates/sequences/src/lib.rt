@@ -11,6 +11,7 @@ use kinds::Kind;
 use refusals::Refusal;
 
 pub mod calls;
+pub mod deep;
 pub mod flat;
 
 // A sequence means its `list` and its `room`, the number of elements that it can hold, which never alters.

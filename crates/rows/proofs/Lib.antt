@@ -1,0 +1,12 @@
+pub mod Frames
+pub mod Nodes
+pub mod Rotations
+pub mod SideEdits
+pub mod Inserts
+pub mod Removes
+pub mod Replaces
+pub mod Ranges
+pub mod FreeLists
+pub mod Depths
+pub mod Layouts
+pub mod WholeEdits

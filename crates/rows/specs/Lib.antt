@@ -1,0 +1,4 @@
+pub mod Shape
+pub mod Edits
+pub mod FreeList
+pub mod Layouts
