@@ -44,7 +44,10 @@ const CALLS: [Call<u16>; 19] = [
 ];
 
 // Runs the calls on any sequence of readings.
-fn run_over<S: Sequence<Element = u16, Summary = Pair<u16, u32>>>(rt: &LibcRuntime, readings: &mut S) -> Result<(), AnyError> {
+fn run_over<S: Sequence<Element = u16, Summary = Pair<u16, u32>>>(
+    rt: &LibcRuntime,
+    readings: &mut S,
+) -> Result<(), AnyError> {
     let answers = run(rt.alloc(), readings, &CALLS)?;
     for (call, answer) in CALLS.iter().zip(answers.iter()) {
         println!(rt, "{call}: {answer}")?;
@@ -53,7 +56,10 @@ fn run_over<S: Sequence<Element = u16, Summary = Pair<u16, u32>>>(rt: &LibcRunti
 }
 
 pub fn run_on_a_flat_list(rt: &LibcRuntime) -> Result<(), AnyError> {
-    println!(rt, "A sequence of readings: a flat list of 4 slots, each range told as its least reading and its sum")?;
+    println!(
+        rt,
+        "A sequence of readings: a flat list of 4 slots, each range told as its least reading and its sum"
+    )?;
     let mut slots = [0u16; 4];
     let mut readings: FlatList<Both<Thinnest, Total>> = FlatList::open(&mut slots);
     run_over(rt, &mut readings)
@@ -61,7 +67,17 @@ pub fn run_on_a_flat_list(rt: &LibcRuntime) -> Result<(), AnyError> {
 
 pub fn run_on_a_tree(rt: &LibcRuntime) -> Result<(), AnyError> {
     println!(rt, "The same calls on a tree of 4 rows")?;
-    let row = Row { element: 0u16, summary: Pair { first: 0u16, second: 0u32 }, left: None, right: None, depth: 0, count: 0 };
+    let row = Row {
+        element: 0u16,
+        summary: Pair {
+            first: 0u16,
+            second: 0u32,
+        },
+        left: None,
+        right: None,
+        depth: 0,
+        count: 0,
+    };
     let mut rows = [row; 4];
     let mut readings: Tree<Both<Thinnest, Total>> = Tree::open(&mut rows);
     run_over(rt, &mut readings)?;

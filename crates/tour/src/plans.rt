@@ -8,7 +8,9 @@ use crate::passes::THIRD;
 use kinds::Kind;
 use motion::Block;
 use motion::Move;
+use panel::run_on_tree;
 use plan::Plan;
+use plan::calls::Answer;
 use plan::calls::AnswerDisplay;
 use plan::calls::Call;
 use plan::calls::CallDisplay;
@@ -17,13 +19,9 @@ use plan::summaries::PlanKindKind;
 use plan::summaries::Summary;
 use rows::Row;
 use sequences::Sequence;
-use sequences::deep::Deep;
 use sequences::flat::FlatList;
 use sequences::flat::FlatListSequence;
 use std::error::AnyError;
-use tree::Tree;
-use tree::TreeDeep;
-use tree::TreeSequence;
 
 const SHORT: Move = Move {
     target: [3000, 4100, 0],
@@ -103,6 +101,13 @@ const CALLS: [Call; 52] = [
     Call::Span(0, 4),
 ];
 
+fn print_answers(rt: &LibcRuntime, answers: &[Answer]) -> Result<(), AnyError> {
+    for (call, answer) in CALLS.iter().zip(answers.iter()) {
+        println!(rt, "{call}: {answer}")?;
+    }
+    Ok(())
+}
+
 // Runs the calls on a plan over any sequence of blocks that is still empty.
 fn run_over<S: Sequence<Element = Block, Summary = Summary, Kind = PlanKind> + Drop>(
     rt: &LibcRuntime,
@@ -112,24 +117,7 @@ fn run_over<S: Sequence<Element = Block, Summary = Summary, Kind = PlanKind> + D
 {
     let mut plan = Plan::open(blocks);
     let answers = plan.run(rt.alloc(), &CALLS)?;
-    for (call, answer) in CALLS.iter().zip(answers.iter()) {
-        println!(rt, "{call}: {answer}")?;
-    }
-    Ok(())
-}
-
-// The same over a sequence that is a tree, with its depth at the end.
-fn run_deep<S: Sequence<Element = Block, Summary = Summary, Kind = PlanKind> + Deep + Drop>(rt: &LibcRuntime, blocks: S) -> Result<(), AnyError>
-    requires { ⌜ S·Sequence .list blocks ≡ [] ⌝ }
-{
-    let mut plan = Plan::open(blocks);
-    let answers = plan.run(rt.alloc(), &CALLS)?;
-    for (call, answer) in CALLS.iter().zip(answers.iter()) {
-        println!(rt, "{call}: {answer}")?;
-    }
-    let depth = plan.depth();
-    println!(rt, "depth: {depth}")?;
-    Ok(())
+    print_answers(rt, answers.as_slice())
 }
 
 pub fn plan_on_a_flat_list(rt: &LibcRuntime) -> Result<(), AnyError> {
@@ -150,6 +138,9 @@ pub fn plan_on_a_tree(rt: &LibcRuntime) -> Result<(), AnyError> {
         count: 0,
     };
     let mut rows = [row; 4];
-    let blocks: Tree<PlanKind> = Tree::open(&mut rows);
-    run_deep(rt, blocks)
+    let told = run_on_tree(rt.alloc(), &mut rows, &CALLS)?;
+    print_answers(rt, told.answers.as_slice())?;
+    let depth = told.depth;
+    println!(rt, "depth: {depth}")?;
+    Ok(())
 }
