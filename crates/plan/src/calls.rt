@@ -15,9 +15,11 @@ use motion::Block;
 use motion::Extent;
 use motion::Move;
 use motion::extents::ExtentDisplay;
+use motion::extents::ExtentPartialEq;
 use motion::moves::MoveDisplay;
 use refusals::Refusal;
 use refusals::RefusalDisplay;
+use refusals::RefusalPartialEq;
 use sequences::Sequence;
 use std::alloc::AllocError;
 use std::alloc::Global;
@@ -58,7 +60,7 @@ pub impl fmt::Display for Call as CallDisplay {
     }
 }
 
-#[derive(Clone, Copy)]
+#[derive(Clone, Copy, PartialEq, Eq)]
 pub enum Answer {
     Edit(Result<(), Refusal>),
     Speed(Result<u32, Refusal>),

@@ -11,6 +11,7 @@ use crate::Sequence;
 use kinds::Kind;
 use refusals::Refusal;
 use refusals::RefusalDisplay;
+use refusals::RefusalPartialEq;
 use std::alloc::AllocError;
 use std::alloc::Global;
 use std::fmt;
@@ -40,7 +41,7 @@ pub impl<E: fmt::Display> fmt::Display for Call<E> as CallDisplay {
     }
 }
 
-#[derive(Clone, Copy)]
+#[derive(Clone, Copy, PartialEq, Eq)]
 pub enum Answer<E, S> {
     Number(u16),
     Element(Result<E, Refusal>),
