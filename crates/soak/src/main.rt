@@ -19,6 +19,7 @@ use plan::summaries::Summary;
 use random::Random;
 use rows::Row;
 use sequences::Sequence;
+use sequences::calls::Answer as SequenceAnswer;
 use sequences::calls::AnswerPartialEq;
 use sequences::calls::apply;
 use sequences::flat::FlatList;
@@ -63,10 +64,15 @@ fn soak_readings(rt: &LibcRuntime) -> Result<(), AnyError> {
     let mut tree: Tree<Thinnest> = Tree::open(&mut rows);
     let mut random = Random::new(1);
     let mut differ = 0u32;
+    let mut edits = 0u32;
     for _ in 0..CALLS {
         let count = flat.count();
         let call = random.reading_call(count);
-        if apply(&mut flat, call) != apply(&mut tree, call) {
+        let told = apply(&mut flat, call);
+        if let SequenceAnswer::Edit(Ok(())) = told {
+            edits = edits.saturating_add(1);
+        }
+        if told != apply(&mut tree, call) {
             differ = differ.saturating_add(1);
         }
     }
@@ -98,7 +104,11 @@ fn soak_plans(rt: &LibcRuntime) -> Result<(), AnyError> {
     let tree: Tree<PlanKind> = Tree::open(&mut rows);
     let other = run_plan(rt.alloc(), tree, calls.as_slice())?;
     let mut differ = 0u32;
+    let mut edits = 0u32;
     for (a, b) in one.iter().zip(other.iter()) {
+        if let Answer::Edit(Ok(())) = *a {
+            edits = edits.saturating_add(1);
+        }
         if *a != *b {
             differ = differ.saturating_add(1);
         }
