@@ -43,12 +43,16 @@ loop-high-again g c =
     let up = above-low low high (c .loop-high-test .taken) in
     let down = below-high low high (c .loop-high-test .taken) in
     let s = g .S·Sequence in
-    let xs = s .list (c .args .self .now .readings) in
-    (c .least .ensures .same ∙ inv .0, omega (arith, inv .1), down, inv .3,
-    λ sound whole.
-      let known : c .least .result ≡ summary thinnest (between low (middle low high) xs) = subst (λ z. s .told (z .readings) → c .least .result ≡ summary thinnest (between low (middle low high) (s .list (z .readings)))) (inv .0) (c .least .ensures .value) (sound .kept) in
-      go-right xs (sound .small) (c .args .i) (c .args .j) (c .args .reading) low high (c .pre .within) (inv .4 sound whole) (middle low high) (omega arith) down
-      (λ e. omega (arith, c .if-least-reading .left, known, e)))
+    let xs = s .list (c .args .self .now .readings) in (
+      c .least .ensures .same ∙ inv .0,
+      omega (arith, inv .1),
+      down,
+      inv .3,
+      λ sound whole.
+          let known : c .least .result ≡ summary thinnest (between low (middle low high) xs) = subst (λ z. s .told (z .readings) → c .least .result ≡ summary thinnest (between low (middle low high) (s .list (z .readings)))) (inv .0) (c .least .ensures .value) (sound .kept) in
+          go-right xs (sound .small) (c .args .i) (c .args .j) (c .args .reading) low high (c .pre .within) (inv .4 sound whole) (middle low high) (omega arith) down
+          (λ e. omega (arith, c .if-least-reading .left, known, e)),
+    )
 
 pub loop-high-again-then-least-reading : need.loop-high-again-then-least-reading
 loop-high-again-then-least-reading g c =
@@ -58,12 +62,16 @@ loop-high-again-then-least-reading g c =
     let up = above-low low high (c .loop-high-test .taken) in
     let down = below-high low high (c .loop-high-test .taken) in
     let s = g .S·Sequence in
-    let xs = s .list (c .args .self .now .readings) in
-    (c .least .ensures .same ∙ inv .0, inv .1, up, omega (arith, inv .3),
-    λ sound whole.
-      let known : c .least .result ≡ summary thinnest (between low (middle low high) xs) = subst (λ z. s .told (z .readings) → c .least .result ≡ summary thinnest (between low (middle low high) (s .list (z .readings)))) (inv .0) (c .least .ensures .value) (sound .kept) in
-      go-left xs (sound .small) (c .args .i) (c .args .j) (c .args .reading) low high (c .pre .within) (inv .4 sound whole) (middle low high) up (omega arith)
-      (omega (arith, c .if-least-reading .taken, known)))
+    let xs = s .list (c .args .self .now .readings) in (
+      c .least .ensures .same ∙ inv .0,
+      inv .1,
+      up,
+      omega (arith, inv .3),
+      λ sound whole.
+          let known : c .least .result ≡ summary thinnest (between low (middle low high) xs) = subst (λ z. s .told (z .readings) → c .least .result ≡ summary thinnest (between low (middle low high) (s .list (z .readings)))) (inv .0) (c .least .ensures .value) (sound .kept) in
+          go-left xs (sound .small) (c .args .i) (c .args .j) (c .args .reading) low high (c .pre .within) (inv .4 sound whole) (middle low high) up (omega arith)
+          (omega (arith, c .if-least-reading .taken, known)),
+    )
 
 pub returns : need.returns
 returns g c =

@@ -1,0 +1,4 @@
+pub mod Walks
+pub mod Laying
+pub mod Stepping
+pub mod Goings

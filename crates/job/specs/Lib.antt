@@ -1,0 +1,6 @@
+pub mod Numbers
+pub mod Fields
+pub mod Verdicts
+pub mod Lines
+pub mod Steps
+pub mod Outputs
