@@ -32,7 +32,7 @@ use tree::TreeSequence;
 
 const ROOM: usize = 200;
 
-const CALLS: u32 = 20_000;
+const CALLS: u32 = 60_000;
 
 const MOVE: Move = Move {
     target: [0, 0, 0],
@@ -78,7 +78,7 @@ fn soak_readings(rt: &LibcRuntime) -> Result<(), AnyError> {
     }
     println!(
         rt,
-        "readings: {CALLS} calls on a tree and a flat list, {differ} answers differ"
+        "readings: {CALLS} calls on a tree and a flat list, {edits} edits accepted, {differ} answers differ"
     )?;
     Ok(())
 }
@@ -115,7 +115,7 @@ fn soak_plans(rt: &LibcRuntime) -> Result<(), AnyError> {
     }
     println!(
         rt,
-        "plans: {CALLS} calls over a tree and a flat list, {differ} answers differ"
+        "plans: {CALLS} calls over a tree and a flat list, {edits} edits accepted, {differ} answers differ"
     )?;
     Ok(())
 }
