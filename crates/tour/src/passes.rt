@@ -4,6 +4,12 @@ use motion::Move;
 use motion::passes::Profile;
 use motion::passes::junction_caps;
 use motion::passes::plan_speeds;
+use motion::theorems::edits_by_parts;
+use motion::theorems::figures_bounded;
+use motion::theorems::passes_by_parts;
+use motion::theorems::reach_is_box;
+use motion::theorems::span_is_sum;
+use motion::theorems::worked_examples;
 use std::error::AnyError;
 
 pub const ORIGIN: [i32; 3] = [0, 0, 0];
@@ -59,11 +65,22 @@ fn print_speeds(rt: &LibcRuntime, blocks: &[Block], start: u32) -> Result<(), An
     Ok(())
 }
 
+// None of these calls does anything when it runs: each stands for the theorem that is its contract.
+fn cite_theorems() -> u8 {
+    figures_bounded()
+        | passes_by_parts()
+        | edits_by_parts()
+        | reach_is_box()
+        | span_is_sum()
+        | worked_examples()
+}
+
 pub fn work_the_passes(rt: &LibcRuntime) -> Result<(), AnyError> {
     println!(
         rt,
         "A plan of three moves by both passes, in squared speeds"
     )?;
+    let _ = cite_theorems();
     let blocks = blocks();
     for block in blocks {
         print_figures(rt, block)?;
