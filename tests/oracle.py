@@ -1,6 +1,6 @@
 """What planrun prints for a job, worked out naively: a list of moves, and both passes over it at every question.
 
-It shares no code with the library and none of its ideas (no summaries, no search): it follows docs and rules only.
+It shares no code with the library and none of its ideas: no summaries, no search, and every list is walked whole.
 """
 from math import isqrt
 

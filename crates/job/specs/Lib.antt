@@ -4,3 +4,4 @@ pub mod Verdicts
 pub mod Lines
 pub mod Steps
 pub mod Outputs
+pub mod Judgements

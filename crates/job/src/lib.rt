@@ -5,3 +5,6 @@ mod numbers;
 pub mod reading;
 pub mod running;
 pub mod whole;
+
+pub use self::reading::Reader;
+pub use self::reading::steps::Outcome;

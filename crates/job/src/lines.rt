@@ -10,6 +10,9 @@ use refusals::Layer;
 use refusals::Named;
 use refusals::Refusal;
 
+// The least buffer, which every line fits into.
+pub(crate) const LINE_ROOM: usize = 64;
+
 // Writes `text` from `at` on, and answers the place after it.
 fn put(line: &mut [u8], at: usize, text: &[u8]) -> usize
     requires { ⌜ at + length (now text) ≤ length (now line) ⌝ }

@@ -13,6 +13,7 @@ ghost use Rattle.std.specs.Of.Vec.{vec-items, vec-len, vec-cap};
 ghost use Rattle.std.specs.Results.{isOk};
 ghost use Rattle.std.specs.Vec.{made};
 ghost use Rattle.std.specs.declared.result.Result.the-variants.{Ok};
+use crate::lines::LINE_ROOM;
 use crate::lines::put_refused;
 use crate::reading::Reader;
 use crate::reading::steps::Outcome;
@@ -26,8 +27,6 @@ use refusals::Refusal;
 use sequences::Sequence;
 use std::alloc::AllocError;
 use std::alloc::Global;
-
-const LINE_ROOM: usize = 64;
 
 // A line has at most 64 bytes, and its field at least four.
 const LINE_SHARE: usize = 16;

@@ -2,6 +2,7 @@
 ghost use lib.ListN.{length, take};
 ghost use mathlib.Core.Path.{_≡_};
 ghost use Prim.Native.Nat.{_+_, _≤_};
+ghost use Rattle.job.specs.Judgements.{Judged};
 ghost use Rattle.job.specs.Verdicts.{xorOf, endChecked, checkedAt, verdictOf};
 ghost use Rattle.std.specs.Vec.{made};
 use crate::fields::Field;
@@ -54,7 +55,8 @@ pub(crate) fn checked_at(job: &[u8], at: usize) -> Result<Found, Refusal>
 
 // Accepts a complete job, or refuses it at its first fault.
 pub fn verdict(job: &[u8]) -> Result<(), Refusal>
-    ensures { λ r. ⌜ r ≡ verdictOf (now (job .entry)) ⌝ }
+    ensures value { λ r. ⌜ r ≡ verdictOf (now (job .entry)) ⌝ }
+    ensures judged { λ r. ⌜ Judged (now (job .entry)) r ⌝ }
 {
     let mut at = 0;
     loop {

@@ -1,6 +1,10 @@
 // Runs the job on standard input on a plan over a tree of 256 rows, and prints a line for each of its fields.
 ghost use lib.ListN.{length};
-ghost use Prim.Native.Nat.{_≤_};
+ghost use mathlib.Core.Path.{_≡_};
+ghost use Prim.Native.Nat.{_≤_, min};
+ghost use Rattle.job.specs.Outputs.{jobOutput};
+ghost use Rattle.plan.specs.Models.{opened};
+ghost use Rattle.std.specs.Of.Vec.{vec-items};
 ghost use Rattle.std.specs.Vec.{made};
 use job::running::run_over;
 use kinds::Kind;
@@ -8,7 +12,10 @@ use motion::Block;
 use motion::Move;
 use plan::summaries::PlanKind;
 use plan::summaries::PlanKindKind;
+use plan::summaries::Summary;
 use rows::Row;
+use std::alloc::AllocError;
+use std::alloc::Global;
 use std::error::AnyError;
 use std::io;
 use std::io::Read;
@@ -44,6 +51,14 @@ fn fill<R: Read>(input: &mut R, buffer: &mut [u8]) -> io::Result<usize>
     Ok(count)
 }
 
+// What the job prints, on a new plan over a tree of the rows.
+fn output(heap: Global, rows: &mut [Row<Block, Summary>], job: &[u8]) -> Result<Vec<u8>, AllocError>
+    ensures { λ r. ⌜ made r (λ text. vec-items text ≡ jobOutput (opened (min (length (now (rows .entry))) 4096)) (now (job .entry))) ⌝ }
+{
+    let blocks: Tree<PlanKind> = Tree::open(rows);
+    run_over(heap, blocks, job)
+}
+
 fn run_input(rt: &LibcRuntime) -> Result<(), AnyError> {
     let mut bytes = [0u8; MOST];
     let count = fill(&mut rt.stdin(), &mut bytes)?;
@@ -56,8 +71,7 @@ fn run_input(rt: &LibcRuntime) -> Result<(), AnyError> {
         count: 0,
     };
     let mut rows = [row; ROWS];
-    let blocks: Tree<PlanKind> = Tree::open(&mut rows);
-    let text = run_over(rt.alloc(), blocks, &bytes[0..count])?;
+    let text = output(rt.alloc(), &mut rows, &bytes[0..count])?;
     rt.stdout().write_all(&text)?;
     Ok(())
 }

@@ -8,6 +8,7 @@ ghost use Rattle.plan.specs.Models.{Model};
 use super::Reader;
 use crate::fields::Field;
 use crate::fields::offset;
+use crate::lines::LINE_ROOM;
 use crate::lines::put_answer;
 use crate::whole::checked_at;
 use motion::Block;
@@ -17,9 +18,6 @@ use plan::summaries::PlanKindKind;
 use plan::summaries::Summary;
 use refusals::Refusal;
 use sequences::Sequence;
-
-// The least buffer that every line fits into.
-const LINE_ROOM: usize = 64;
 
 #[derive(Clone, Copy)]
 pub enum Outcome {
