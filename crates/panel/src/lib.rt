@@ -3,8 +3,10 @@ ghost use lib.ListN.{length};
 ghost use mathlib.Core.List.{[]};
 ghost use mathlib.Core.Path.{_≡_};
 ghost use Prim.Native.Nat.{_-_, _^_, _≤_, min};
+ghost use Rattle.panel.specs.Standing.{Standing};
 ghost use Rattle.panel.specs.Whole.{Whole};
-ghost use Rattle.plan.specs.Models.{opened};
+ghost use Rattle.plan.specs.Calls.{afterAll};
+ghost use Rattle.plan.specs.Models.{opened, blocksOf};
 ghost use Rattle.std.specs.Vec.{made};
 use motion::Block;
 use plan::Plan;
@@ -37,7 +39,8 @@ fn run_deep<S: Sequence<Element = Block, Summary = Summary, Kind = PlanKind> + D
 ) -> Result<Told, AllocError>
     requires empty { ⌜ S·Sequence .list blocks ≡ [] ⌝ }
     requires told { ⌜ S·Sequence .told blocks ⌝ }
-    ensures { λ r. ⌜ made r (λ t. Whole (opened (S·Sequence .room blocks)) (now (calls .entry)) t) ⌝ }
+    ensures whole { λ r. ⌜ made r (λ t. Whole (opened (S·Sequence .room blocks)) (now (calls .entry)) t) ⌝ }
+    ensures stands { λ r. ⌜ made r (λ t. ((q : S) × S·Deep .stands q × S·Sequence .told q × (S·Sequence .list q ≡ blocksOf (afterAll (opened (S·Sequence .room blocks)) (now (calls .entry)))) × (S·Deep .levels q ≡ t .depth))) ⌝ }
 {
     let mut plan = Plan::open(blocks);
     let answers = plan.run(heap, calls)?;
@@ -51,7 +54,8 @@ pub fn run_on_tree(
     rows: &mut [Row<Block, Summary>],
     calls: &[Call],
 ) -> Result<Told, AllocError>
-    ensures { λ r. ⌜ made r (λ t. Whole (opened (min (length (now (rows .entry))) 4096)) (now (calls .entry)) t) ⌝ }
+    ensures whole { λ r. ⌜ made r (λ t. Whole (opened (min (length (now (rows .entry))) 4096)) (now (calls .entry)) t) ⌝ }
+    ensures stands { λ r. ⌜ made r (λ t. Standing (blocksOf (afterAll (opened (min (length (now (rows .entry))) 4096)) (now (calls .entry)))) (t .depth)) ⌝ }
 {
     let blocks: Tree<PlanKind> = Tree::open(rows);
     run_deep(heap, blocks, calls)

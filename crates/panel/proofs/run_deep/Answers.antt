@@ -1,4 +1,4 @@
-use mathlib.Core.Path.{_≡_, refl, ap, subst, _∙_}
+use mathlib.Core.Path.{_≡_, sym, ap, subst}
 use mathlib.Core.Bool.{true}
 use Prim.Native.Nat.{_-_, _^_, _≤_}
 use lib.ListN.{length}
@@ -22,8 +22,11 @@ returns g c =
     let end = ran .after (ap isOk was) b k in
     let many = as-many (s .list) (s .room) (s .told) (afterAll b calls) (c .run .last .self) end in
     record {
-      told = made-at-ok (λ v. vec-items v ≡ answers b calls) was (ran .value b k);
-      right = made-at-ok (λ v. AllRight b calls (vec-items v)) was (ran .right b k);
-      least = subst (λ n. fewest (c .depth-depth .result) ≤ n) many (c .depth-depth .ensures .least);
-      most = subst (λ n. n ≤ 2 ^ c .depth-depth .result - 1) many (c .depth-depth .ensures .most);
+      whole = record {
+        told = made-at-ok (λ v. vec-items v ≡ answers b calls) was (ran .value b k);
+        right = made-at-ok (λ v. AllRight b calls (vec-items v)) was (ran .right b k);
+        least = subst (λ n. fewest (c .depth-depth .result) ≤ n) many (c .depth-depth .ensures .least);
+        most = subst (λ n. n ≤ 2 ^ c .depth-depth .result - 1) many (c .depth-depth .ensures .most);
+      };
+      stands = (c .run .last .self .blocks, c .depth-depth .ensures .stands, end .sums, end .holds, sym (c .depth-depth .ensures .value));
     }
