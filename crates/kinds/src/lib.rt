@@ -1,4 +1,5 @@
 // Kinds of summary: what a range of elements comes to, and the laws by which its parts may be joined.
+#![tactic(auto)]
 ghost use Rattle.std.specs.Prelude.{◌≡◌, List, ◌++◌};
 ghost use Rattle.kinds.specs.Rules.{Rule, Laws, summary};
 ghost use Rattle.kinds.specs.Sums.{◌⊕◌, SumLaws};
@@ -32,8 +33,8 @@ pub trait Kind {
 
 // The elements of a slice, joined from left to right; wherever the slice is cut, that is the join of its two parts.
 pub fn fold<K: Kind>(elements: &[K::Element]) -> K::Summary
-    ensures value { result ≡ summary rule elements.now }
-    ensures parts { (xs ys : List K.Element) → elements.now ≡ xs ++ ys → result ≡ rule.join (summary rule xs) (summary rule ys) }
+    ensures value { result ≡ summary K.Kind.rule elements.now }
+    ensures parts { (xs ys : List K.Element) → elements.now ≡ xs ++ ys → result ≡ K.Kind.rule.join (summary K.Kind.rule xs) (summary K.Kind.rule ys) }
 {
     let mut sum = K::unit();
     for element in elements {

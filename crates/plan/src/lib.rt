@@ -1,4 +1,5 @@
 // The plan: moves along the ice over any sequence of blocks, and the speeds at their junctions.
+#![tactic(auto)]
 ghost use Rattle.std.specs.Prelude.{◌≡◌, []};
 ghost use Rattle.plan.specs.Keeping.{Keeps};
 ghost use Rattle.plan.specs.Models.{opened};

@@ -1,4 +1,5 @@
 // Rows of a balanced tree in a caller's slice, and the functions that read and write them.
+#![tactic(auto)]
 ghost use Rattle.std.specs.Prelude.{◌≡◌, ◌<◌, length, slice_index_or, slice_set};
 ghost use Rattle.rows.specs.Edits.{Sides, Refreshed};
 ghost use Rattle.rows.specs.Shape.{Shape, count_of, depth_of, stored, Rooted};

@@ -53,7 +53,7 @@ fn element_in<E: Copy>(slots: &mut [E], i: usize) -> E
 fn fold_in<K: Kind>(slots: &mut [K::Element], i: usize, j: usize) -> K::Summary
     requires order { i ≤ j }
     requires within { j ≤ length slots.old }
-    ensures value { result ≡ summary rule (between i j slots.old) }
+    ensures value { result ≡ summary K.Kind.rule (between i j slots.old) }
     ensures same { slots.new ≡ slots.old }
 {
     fold::<K>(&slots[i..j])
@@ -103,7 +103,7 @@ impl<'a, E: Copy> Slots<'a, E> {
 fn fold_slots<K: Kind>(store: &mut Slots<K::Element>, i: usize, j: usize) -> K::Summary
     requires order { i ≤ j }
     requires within { j ≤ length store.old.slots.now }
-    ensures value { result ≡ summary rule (between i j store.old.slots.now) }
+    ensures value { result ≡ summary K.Kind.rule (between i j store.old.slots.now) }
     ensures same { store.new ≡ store.old }
 {
     fold_in::<K>(store.slots, i, j)

@@ -1,4 +1,6 @@
 // Sequences: lists with a fixed capacity that can be edited and summed up at any place.
+#![tactic(auto)]
+
 ghost use Rattle.std.specs.Prelude.{◌≡◌, ℕ, ◌≤◌, List, length, Err};
 ghost use Rattle.refusals.specs.declared.Refusal.{Refusal};
 ghost use Rattle.sequences.specs.Lists.{insert_answer, insert_list, place_answer, delete_list, replace_list, element_answer, range_answer, outcome, range_outcome};

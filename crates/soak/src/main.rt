@@ -1,4 +1,5 @@
 // Long random runs on a tree and on a flat list at once: every answer must be the same.
+#![tactic(auto)]
 ghost use Rattle.std.specs.Prelude.{◌≡◌, []};
 
 mod random;

@@ -1,4 +1,5 @@
 // A tour of the library: written lists of calls, each printed with its answer or its refusal.
+#![tactic(auto)]
 
 mod ice;
 mod list;

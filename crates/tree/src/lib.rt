@@ -1,4 +1,5 @@
 // The balanced tree: a sequence over rows that the caller lends.
+#![tactic(auto)]
 ghost use Rattle.std.specs.Prelude.{◌≡◌, ℕ, ◌≤◌, List, [], length};
 ghost use Rattle.kinds.specs.Rules.{summary};
 ghost use Rattle.rows.specs.Edits.{Whole, Replaced};
