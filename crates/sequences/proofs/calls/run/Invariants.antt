@@ -10,4 +10,4 @@ invariant-loop-call g l =
     (vec_len l.answers ≡ l.call-index)
     × (length l.calls ≤ vec_capacity l.answers)
     × (s.room l.sequence ≡ room)
-    × Running (after room) (answer g.row.S-Kind-Kind.rule room) l.calls (s.list l.initial.sequence) (s.told l.initial.sequence) l.call-index (s.list l.sequence) (s.told l.sequence) (vec_items l.answers)
+    × Running (after room) (answer g.S.Kind.Kind.rule room) l.calls (s.list l.initial.sequence) (s.told l.initial.sequence) l.call-index (s.list l.sequence) (s.told l.sequence) (vec_items l.answers)

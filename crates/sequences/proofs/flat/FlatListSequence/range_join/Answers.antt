@@ -12,12 +12,12 @@ returns g c =
     let xs = s.store.slots.now in
     let i = c.args.i in
     let j = c.args.j in
-    let m = g.row.K-Kind.rule in
+    let m = g.K.Kind.rule in
     let long : length (take s.used xs) ≡ s.used = length-take-le s.used xs (omega (arith, s.within)) in
     let inside : j ≤ length (take s.used xs) = omega (arith, c.if-j-self.false) in
     record {
       outcome = sym (range_there no_place (take s.used xs) i j tt c.if-i-j.false inside);
-      value = λ _. ap Ok (c.fold-slots.ensures.value ∙ ap (summary m) (sym (between_take xs i j s.used c.if-j-self.false)))
+      value = λ _. ap Ok (c.fold_slots.ensures.value ∙ ap (summary m) (sym (between_take xs i j s.used c.if-j-self.false)))
           ∙ sym (range_there no_place (take s.used xs) i j _ c.if-i-j.false inside);
-      same = same_flat _ _ c.fold-slots.ensures.same refl;
+      same = same_flat _ _ c.fold_slots.ensures.same refl;
     }
