@@ -1,6 +1,6 @@
 -- The rules of the kinds of this crate, with their laws.
 use Rattle.std.specs.Prelude.{◌≡◌, ℕ, ◌≤◌, min}
-use Rattle.std.proofs.Common.{ap, arith}
+use Rattle.std.proofs.Common.{arith}
 use Rattle.kinds.specs.Rules.{Rule, Laws}
 use Rattle.kinds.specs.Sums.{◌⊕◌, top, sum_laws}
 use Rattle.kinds.specs.declared.Pair.{Pair}

@@ -1,5 +1,6 @@
 // Kinds of summary: what a range of elements comes to, and the laws by which its parts may be joined.
 #![tactic(auto)]
+
 ghost use Rattle.std.specs.Prelude.{◌≡◌, List, ◌++◌};
 ghost use Rattle.kinds.specs.Rules.{Rule, Laws, summary};
 ghost use Rattle.kinds.specs.Sums.{◌⊕◌, SumLaws};

@@ -1,5 +1,6 @@
 // Why a call is refused, by the number and the layer that every panel knows it by.
 #![tactic(auto)]
+
 ghost use Rattle.std.specs.Prelude.{◌≡◌, Some};
 ghost use Rattle.refusals.specs.Table.{number_of, layer_of, name_of, named_of, reason_of, words_of};
 

@@ -1,5 +1,6 @@
 // The ice survey: readings along the rink in tenths of a millimetre, and where the ice is thinnest.
 #![tactic(auto)]
+
 ghost use Rattle.std.specs.Prelude.{◌≡◌, ℕ, ◌<◌, ◌≤◌, [], length, Some, None, Ok, Err};
 ghost use Rattle.kinds.specs.Models.{thinnest as thinnest-rule};
 ghost use Rattle.kinds.specs.Rules.{summary};

@@ -1,4 +1,4 @@
-use Rattle.std.proofs.Common.{◌≡◌, refl, ap, ◌∙◌, arith, rules}
+use Rattle.std.proofs.Common.{refl, ap, ◌∙◌, arith, rules}
 use Rattle.sequences.specs.Calls.{answer, after}
 use Rattle.sequences.proofs.Runs.{running_start, running_more, left_all, answered_all}
 use Rattle.sequences.proofs.calls.run.Goals as goal

@@ -1,4 +1,4 @@
-use Rattle.std.proofs.Common.{◌≡◌, ℕ, ◌+◌, ◌-◌, ◌/◌, ◌<◌, ◌≤◌, length, sym, refl, ap, ◌∙◌, subst, arith}
+use Rattle.std.proofs.Common.{◌≡◌, ℕ, ◌+◌, ◌-◌, ◌/◌, ◌<◌, length, sym, refl, ap, ◌∙◌, subst, arith}
 use Rattle.kinds.specs.Models.{thinnest}
 use Rattle.kinds.specs.Rules.{summary}
 use Rattle.std.specs.List.{between}
