@@ -10,8 +10,8 @@ module _ (blocks : List Block) where
   pub own_past : (j : ℕ) → length blocks ≤ j → own_at blocks j ≡ 0
   own_past j h = get_or_past (map own_cap blocks) j 0 (omega (arith, length-map blocks own_cap))
 
-  pub own_at : (j : ℕ) (b : Block) → j < length blocks → own_at blocks j ≡ own_cap (get_or blocks j b)
-  own_at j b h = get_or-map own_cap blocks j b 0 h
+  pub own_at_is : (j : ℕ) (b : Block) → j < length blocks → own_at blocks j ≡ own_cap (get_or blocks j b)
+  own_at_is j b h = get_or-map own_cap blocks j b 0 h
 
   cap_past : (n : ℕ) → own_at blocks n ≡ 0 → junction_cap blocks n ≡ 0
   cap_past zero e = e

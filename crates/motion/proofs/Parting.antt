@@ -12,7 +12,7 @@ use Rattle.motion.specs.Laid.{idle}
 use Rattle.motion.specs.Runs.{through, run_up_rule, run_down_rule, run_up_laws, run_down_laws}
 use Rattle.motion.specs.ByParts.{run_up_to, run_down_from, run_down_to, ByParts}
 use Rattle.motion.proofs.Lawfulness.{own_past, start_under, starts_at, at_speeds, greatest, one_greatest, falls, passes}
-use Rattle.motion.proofs.Blocking.{first-blocked}
+use Rattle.motion.proofs.Blocking.{first_blocked_first}
 use Rattle.motion.proofs.Running.{through_unit, up_through, down_through}
 
 -- the greatest speed before block j from what it and the d - 1 blocks after it ask, with block j + d to come
@@ -153,7 +153,7 @@ module _ (blocks : List Block) where
   -- one test of a binary search for the first blocked junction
   pub blocked_by_parts : (s k : ℕ) → (Starts blocks (length blocks) s → ⊥) → k ≤ length blocks → (k < first_blocked blocks s) ↔ (s ≤ run_down_to blocks k)
   blocked_by_parts s k none h =
-      let f = first-blocked blocks s none in
+      let f = first_blocked_first blocks s none in
       let m = first_blocked blocks s in (
         λ l. (starts_by_parts k s h).0 (f.open_before k l),
         λ l. elim (cases_lt k m) [

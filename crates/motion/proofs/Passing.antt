@@ -13,7 +13,7 @@ use Rattle.motion.specs.Figures.{own_cap, corner_cap, rise_of, fall_of}
 use Rattle.motion.specs.Laid.{idle}
 use Rattle.motion.specs.Runs.{through, run_down_rule, run_down_laws}
 use Rattle.motion.specs.Profiles.{own_at, corner_at, rise_at, fall_at, junction_cap, Caps, at, reverse_from, reverse_at, forward_at, greatest_start, blocked_from}
-use Rattle.motion.proofs.Lawfulness.{own_at, caps, reverse_step, reverse_cap}
+use Rattle.motion.proofs.Lawfulness.{own_at_is, caps, reverse_step, reverse_cap}
 use Rattle.motion.proofs.Parting.{own_fits, prefix_by_parts}
 
 -- a list of speeds that has f at each junction up to n
@@ -96,7 +96,7 @@ module _ (blocks : List Block) where
     here = get_or blocks i idle
 
     own_here : own_cap here ≡ own_at blocks i
-    own_here = sym (own_at blocks i idle h)
+    own_here = sym (own_at_is blocks i idle h)
 
     corner_here : corner_cap here ≡ corner_at blocks i
     corner_here = sym (get_or-map corner_cap blocks i idle 0 h)

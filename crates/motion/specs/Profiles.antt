@@ -6,8 +6,8 @@ use Rattle.motion.specs.declared.blocks.Block.{Block}
 use Rattle.motion.specs.Figures.{own_cap, corner_cap, rise_of, fall_of}
 
 -- the figures of block j, and 0 past the last block, where nothing moves
-abbrev pub field_own : List Block → ℕ → ℕ
-field_own blocks j = slice_index (map own_cap blocks) j
+abbrev pub own_at : List Block → ℕ → ℕ
+own_at blocks j = slice_index (map own_cap blocks) j
 
 abbrev pub corner_at : List Block → ℕ → ℕ
 corner_at blocks j = slice_index (map corner_cap blocks) j
@@ -20,8 +20,8 @@ fall_at blocks j = slice_index (map fall_of blocks) j
 
 -- the cap of junction j; as no block follows the last junction, its cap is 0
 abbrev pub junction_cap : List Block → ℕ → ℕ
-junction_cap blocks zero = field_own blocks 0
-junction_cap blocks (suc j) = min (min (field_own blocks j) (corner_at blocks j)) (field_own blocks (suc j))
+junction_cap blocks zero = own_at blocks 0
+junction_cap blocks (suc j) = min (min (own_at blocks j) (corner_at blocks j)) (own_at blocks (suc j))
 
 abbrev pub junction_caps : List Block → List ℕ
 junction_caps blocks = map (junction_cap blocks) (range_with_len 0 (suc (length blocks)))
@@ -29,8 +29,8 @@ junction_caps blocks = map (junction_cap blocks) (range_with_len 0 (suc (length 
 -- the caps by cases: the last, the first, and those between
 pub record Caps (blocks : List Block) (cap : ℕ → ℕ) : Type 0 where
   pub last : cap (length blocks) ≡ 0
-  pub first : 0 < length blocks → cap 0 ≡ field_own blocks 0
-  pub between : (j : ℕ) → suc j < length blocks → cap (suc j) ≡ min (min (field_own blocks j) (corner_at blocks j)) (field_own blocks (suc j))
+  pub first : 0 < length blocks → cap 0 ≡ own_at blocks 0
+  pub between : (j : ℕ) → suc j < length blocks → cap (suc j) ≡ min (min (own_at blocks j) (corner_at blocks j)) (own_at blocks (suc j))
 
 -- the speed of a profile at junction j
 abbrev pub at : List ℕ → ℕ → ℕ

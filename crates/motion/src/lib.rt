@@ -1,5 +1,6 @@
 // Motion along straight blocks: their figures, their lawful profiles, and the summaries from which speeds are told.
 #![tactic(auto)]
+
 pub mod blocks;
 pub mod extents;
 pub mod moves;

@@ -1,6 +1,6 @@
 use Rattle.std.proofs.Common.{◌≡◌, ◌-◌, length, sym, ap, ◌∙◌, arith}
 use Rattle.motion.specs.Profiles.{blocked_from}
-use Rattle.motion.specs.Runs.{through, run_down_rule}
+use Rattle.motion.specs.Runs.{run_down_rule}
 use Rattle.motion.proofs.Passing.{blocked_here, blocked_on, run_more}
 use Rattle.motion.proofs.passes.first_blocked.Goals as goal
 
@@ -13,7 +13,7 @@ loop-m-init c =
 pub returns-then-start-through : goal.returns-then-start-through
 returns-then-start-through c =
     let inv = c.loop-m.invariant in
-    sym (blocked_here c.args.blocks.now c.loop-m.m c.loop-m-test.true c.args.start c.own-cap.result c.loop-m.run inv.0 c.own-cap.ensures (omega (arith, c.through.ensures, c.if-start-through.true))) ∙ inv.1
+    sym (blocked_here c.args.blocks.now c.loop-m.m c.loop-m-test.true c.args.start c.own_cap.result c.loop-m.run inv.0 c.own_cap.ensures (omega (arith, c.through.ensures, c.if-start-through.true))) ∙ inv.1
 
 pub loop-m-preserved : goal.loop-m-preserved
 loop-m-preserved c =
@@ -22,7 +22,7 @@ loop-m-preserved c =
     let inv = c.loop-m.invariant in
     let h = c.loop-m-test.true in (
       c.join-run.ensures ∙ ap (run_down_rule.join c.loop-m.run) c.of.ensures ∙ run_more blocks m h c.loop-m.run inv.0,
-      sym (blocked_on blocks m h c.args.start c.own-cap.result c.loop-m.run inv.0 c.own-cap.ensures (omega (arith, c.through.ensures, c.if-start-through.false))) ∙ inv.1,
+      sym (blocked_on blocks m h c.args.start c.own_cap.result c.loop-m.run inv.0 c.own_cap.ensures (omega (arith, c.through.ensures, c.if-start-through.false))) ∙ inv.1,
     )
 
 pub returns : goal.returns

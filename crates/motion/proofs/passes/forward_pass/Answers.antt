@@ -15,10 +15,10 @@ loop-j-preserved c =
     let j = c.loop-j.j in
     let v = c.loop-j.speeds in
     let inv = c.loop-j.invariant in
-    let least : c.next-speed.result ≡ forward_at blocks c.args.start (j + 1) =
-    c.next-speed.ensures
+    let least : c.next_speed.result ≡ forward_at blocks c.args.start (j + 1) =
+    c.next_speed.ensures
     ∙ forward_next blocks j (omega arith) c.args.start (get_or v (j + 1) 0) (get_or v j 0) c.rise.result (inv.2 (j + 1) (omega arith) (omega arith)) (inv.1 j (omega arith) (omega arith)) c.rise.ensures in
-    split_up (forward_at blocks c.args.start) (reverse_at blocks) (length blocks) (j + 1) c.next-speed.result v (omega arith) inv least
+    split_up (forward_at blocks c.args.start) (reverse_at blocks) (length blocks) (j + 1) c.next_speed.result v (omega arith) inv least
 
 pub returns : goal.returns
 returns c =

@@ -10,13 +10,13 @@ loop-block-preserved c =
     let inv = c.loop-block.invariant in
     let h = c.loop-block-test.true in (
       omega arith,
-      c.in-ok-push.ensures.items ∙ cap_more blocks i h (vec_items c.loop-block.caps) c.loop-block.before c.junction-cap.result inv.1 inv.2 c.junction-cap.ensures,
-      c.min-before.ensures ∙ limit_more blocks i h c.own-cap.result c.corner-cap.result c.own-cap.ensures c.corner-cap.ensures,
+      c.in_ok-push.ensures.items ∙ cap_more blocks i h (vec_items c.loop-block.caps) c.loop-block.before c.junction_cap.result inv.1 inv.2 c.junction_cap.ensures,
+      c.min-before.ensures ∙ limit_more blocks i h c.own_cap.result c.corner_cap.result c.own_cap.ensures c.corner_cap.ensures,
     )
 
 pub returns : goal.returns
 returns c =
     let blocks = c.args.blocks.now in
     let all : vec_items c.push-2.new.self ≡ junction_caps blocks =
-    c.in-ok-push-2.ensures.items ∙ caps_end blocks (vec_items c.loop-block.caps) c.loop-block.block-index (omega arith) c.loop-block.invariant.1 in
+    c.in_ok-push-2.ensures.items ∙ caps_end blocks (vec_items c.loop-block.caps) c.loop-block.block-index (omega arith) c.loop-block.invariant.1 in
     record { value = all; cases = caps_from blocks (vec_items c.push-2.new.self) all }

@@ -23,10 +23,10 @@ loop-j-preserved c =
     let inv = c.loop-j.invariant in
     let more : c.loop-j.j ≡ j + 1 = omega arith in
     let before : Split (junction_cap blocks) (reverse_at blocks) n (j + 1) v = (inv.0, λ k l m. inv.1 k (omega arith) m, λ k l m. inv.2 k (omega arith) m) in
-    let least : c.next-speed.result ≡ reverse_at blocks j =
-    c.next-speed.ensures
+    let least : c.next_speed.result ≡ reverse_at blocks j =
+    c.next_speed.ensures
     ∙ reverse_next blocks j (omega arith) (get_or v j 0) (get_or v (j + 1) 0) c.fall.result (inv.1 j (omega arith) (omega arith)) (inv.2 (j + 1) (omega arith) (omega arith)) c.fall.ensures in
-    split_down (junction_cap blocks) (reverse_at blocks) n j c.next-speed.result v (omega arith) before least
+    split_down (junction_cap blocks) (reverse_at blocks) n j c.next_speed.result v (omega arith) before least
 
 pub returns : goal.returns
 returns c =
