@@ -16,7 +16,7 @@ pub fn rotate_right<K: Kind>(
     right: Option<u16>,
 ) -> u16
     requires { (x : Cell K.Element K.Summary) × (a : Shape K.Element K.Summary) × (b : Shape K.Element K.Summary) × (r : Shape K.Element K.Summary) × Rebalance rows.old p (Some q) right (node q x a b) r × (depth_of r + 1 < depth_of (node q x a b)) }
-    ensures { (x : Cell K.Element K.Summary) (a b r : Shape K.Element K.Summary) → Rebalance rows.old p (Some q) right (node q x a b) r → depth_of r + 1 < depth_of (node q x a b) → Rebalanced rule rows.old rows.new p element result (node q x a b) r }
+    ensures { (x : Cell K.Element K.Summary) (a b r : Shape K.Element K.Summary) → Rebalance rows.old p (Some q) right (node q x a b) r → depth_of r + 1 < depth_of (node q x a b) → Rebalanced K.Kind.rule rows.old rows.new p element result (node q x a b) r }
 {
     let row = row_at(rows, q);
     if depth_of::<K>(rows, row.left) >= depth_of::<K>(rows, row.right) {
@@ -46,7 +46,7 @@ pub fn rotate_left<K: Kind>(
     left: Option<u16>,
 ) -> u16
     requires { (x : Cell K.Element K.Summary) × (a : Shape K.Element K.Summary) × (b : Shape K.Element K.Summary) × (l : Shape K.Element K.Summary) × Rebalance rows.old p left (Some q) l (node q x a b) × (depth_of l + 1 < depth_of (node q x a b)) }
-    ensures { (x : Cell K.Element K.Summary) (a b l : Shape K.Element K.Summary) → Rebalance rows.old p left (Some q) l (node q x a b) → depth_of l + 1 < depth_of (node q x a b) → Rebalanced rule rows.old rows.new p element result l (node q x a b) }
+    ensures { (x : Cell K.Element K.Summary) (a b l : Shape K.Element K.Summary) → Rebalance rows.old p left (Some q) l (node q x a b) → depth_of l + 1 < depth_of (node q x a b) → Rebalanced K.Kind.rule rows.old rows.new p element result l (node q x a b) }
 {
     let row = row_at(rows, q);
     if depth_of::<K>(rows, row.right) >= depth_of::<K>(rows, row.left) {
@@ -76,7 +76,7 @@ pub fn rebalance<K: Kind>(
     right: Option<u16>,
 ) -> u16
     requires { (l : Shape K.Element K.Summary) × (r : Shape K.Element K.Summary) × Rebalance rows.old p left right l r }
-    ensures { (l r : Shape K.Element K.Summary) → Rebalance rows.old p left right l r → Rebalanced rule rows.old rows.new p element result l r }
+    ensures { (l r : Shape K.Element K.Summary) → Rebalance rows.old p left right l r → Rebalanced K.Kind.rule rows.old rows.new p element result l r }
 {
     let l = depth_of::<K>(rows, left);
     let r = depth_of::<K>(rows, right);

@@ -1,5 +1,6 @@
 // Rows of a balanced tree in a caller's slice, and the functions that read and write them.
 #![tactic(auto)]
+
 ghost use Rattle.std.specs.Prelude.{◌≡◌, ◌<◌, length, slice_index_or, slice_set};
 ghost use Rattle.rows.specs.Edits.{Sides, Refreshed};
 ghost use Rattle.rows.specs.Shape.{Shape, count_of, depth_of, stored, Rooted};
@@ -60,7 +61,7 @@ pub fn depth_of<K: Kind>(rows: &[Row<K::Element, K::Summary>], side: Option<u16>
 
 fn summary_of<K: Kind>(rows: &[Row<K::Element, K::Summary>], side: Option<u16>) -> K::Summary
     requires { (t : Shape K.Element K.Summary) × Rooted rows.now side t }
-    ensures { (t : Shape K.Element K.Summary) → Rooted rows.now side t → result ≡ stored rule t }
+    ensures { (t : Shape K.Element K.Summary) → Rooted rows.now side t → result ≡ stored K.Kind.rule t }
 {
     match side {
         None => K::unit(),
@@ -92,7 +93,7 @@ fn refresh<K: Kind>(
 )
     requires within { p < length rows.old }
     requires sides { Sides rows.old left right }
-    ensures { (l r : Shape K.Element K.Summary) → Rooted rows.old left l → Rooted rows.old right r → Refreshed rule rows.old p element l r rows.new }
+    ensures { (l r : Shape K.Element K.Summary) → Rooted rows.old left l → Rooted rows.old right r → Refreshed K.Kind.rule rows.old p element l r rows.new }
 {
     let after = K::join(K::of(&element), summary_of::<K>(rows, right));
     let summary = K::join(summary_of::<K>(rows, left), after);

@@ -19,7 +19,7 @@ pub fn insert<K: Kind>(
     element: K::Element,
 ) -> u16
     requires { (t : Shape K.Element K.Summary) × Insert rows.old top i fresh t }
-    ensures { (t : Shape K.Element K.Summary) → Insert rows.old top i fresh t → Inserted rule rows.old rows.new i fresh element result t }
+    ensures { (t : Shape K.Element K.Summary) → Insert rows.old top i fresh t → Inserted K.Kind.rule rows.old rows.new i fresh element result t }
 {
     match top {
         None => {
@@ -50,7 +50,7 @@ pub struct First<E> {
 
 pub fn remove_first<K: Kind>(rows: &mut [Row<K::Element, K::Summary>], p: u16) -> First<K::Element>
     requires { (t : Shape K.Element K.Summary) × Whole rows.old (Some p) t }
-    ensures { (t : Shape K.Element K.Summary) → Whole rows.old (Some p) t → RemovedFirst rule rows.old rows.new result.place result.element result.rest t }
+    ensures { (t : Shape K.Element K.Summary) → Whole rows.old (Some p) t → RemovedFirst K.Kind.rule rows.old rows.new result.place result.element result.rest t }
 {
     let row = row_at(rows, p);
     match row.left {
@@ -78,7 +78,7 @@ pub fn merge_sides<K: Kind>(
     right: Option<u16>,
 ) -> Option<u16>
     requires { (p : ℕ) × (x : Cell K.Element K.Summary) × (l : Shape K.Element K.Summary) × (r : Shape K.Element K.Summary) × Whole rows.old (Some p) (node p x l r) × Rooted rows.old left l × Rooted rows.old right r }
-    ensures { (p : ℕ) (x : Cell K.Element K.Summary) (l r : Shape K.Element K.Summary) → Whole rows.old (Some p) (node p x l r) → Rooted rows.old left l → Rooted rows.old right r → Taken rule rows.old rows.new result p (elements l ++ elements r) (node p x l r) }
+    ensures { (p : ℕ) (x : Cell K.Element K.Summary) (l r : Shape K.Element K.Summary) → Whole rows.old (Some p) (node p x l r) → Rooted rows.old left l → Rooted rows.old right r → Taken K.Kind.rule rows.old rows.new result p (elements l ++ elements r) (node p x l r) }
 {
     match right {
         None => left,
@@ -100,7 +100,7 @@ pub struct Out {
 // Takes the row at the place `i` of the list out of the tree at `p`.
 pub fn remove<K: Kind>(rows: &mut [Row<K::Element, K::Summary>], p: u16, i: u16) -> Out
     requires { (t : Shape K.Element K.Summary) × Remove rows.old (Some p) i t }
-    ensures { (t : Shape K.Element K.Summary) → Remove rows.old (Some p) i t → Removed rule rows.old rows.new result.place i result.rest t }
+    ensures { (t : Shape K.Element K.Summary) → Remove rows.old (Some p) i t → Removed K.Kind.rule rows.old rows.new result.place i result.rest t }
 {
     let row = row_at(rows, p);
     let before = count_of::<K>(rows, row.left);
@@ -142,7 +142,7 @@ pub fn replace<K: Kind>(
     element: K::Element,
 )
     requires { (t : Shape K.Element K.Summary) × Whole rows.old side t }
-    ensures { (t : Shape K.Element K.Summary) → Whole rows.old side t → Replaced rule rows.old rows.new i element side t }
+    ensures { (t : Shape K.Element K.Summary) → Whole rows.old side t → Replaced K.Kind.rule rows.old rows.new i element side t }
 {
     match side {
         None => {}
@@ -196,7 +196,7 @@ pub fn range_summary<K: Kind>(
     j: u16,
 ) -> K::Summary
     requires { (t : Shape K.Element K.Summary) × Rooted rows.now side t × (i ≤ j) × (j ≤ count_of t) }
-    ensures { (t : Shape K.Element K.Summary) → Rooted rows.now side t → i ≤ j → j ≤ count_of t → Told rule t → result ≡ summary rule (between i j (elements t)) }
+    ensures { (t : Shape K.Element K.Summary) → Rooted rows.now side t → i ≤ j → j ≤ count_of t → Told K.Kind.rule t → result ≡ summary K.Kind.rule (between i j (elements t)) }
 {
     match side {
         None => K::unit(),

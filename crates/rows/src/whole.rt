@@ -17,7 +17,7 @@ pub fn insert_element<K: Kind>(
     element: K::Element,
 ) -> Heads
     requires { (t : Shape K.Element K.Summary) × (fs : List ℕ) × HasRoom rows.old heads i t fs }
-    ensures { (t : Shape K.Element K.Summary) (fs : List ℕ) → HasRoom rows.old heads i t fs → Edited rule rows.old rows.new result (insert (elements t) i element) (Told rule t) }
+    ensures { (t : Shape K.Element K.Summary) (fs : List ℕ) → HasRoom rows.old heads i t fs → Edited K.Kind.rule rows.old rows.new result (insert (elements t) i element) (Told K.Kind.rule t) }
 {
     match take_free(rows, heads.free, heads.used) {
         None => unreachable(),
@@ -39,7 +39,7 @@ pub fn delete_element<K: Kind>(
     i: u16,
 ) -> Heads
     requires { (t : Shape K.Element K.Summary) × (fs : List ℕ) × HasElement rows.old heads i t fs }
-    ensures { (t : Shape K.Element K.Summary) (fs : List ℕ) → HasElement rows.old heads i t fs → Edited rule rows.old rows.new result (remove (elements t) i) (Told rule t) }
+    ensures { (t : Shape K.Element K.Summary) (fs : List ℕ) → HasElement rows.old heads i t fs → Edited K.Kind.rule rows.old rows.new result (remove (elements t) i) (Told K.Kind.rule t) }
 {
     match heads.top {
         None => unreachable(),

@@ -4,6 +4,7 @@ use base.Stored.{Coded, Coded-set}
 use Rattle.std.specs.List.{insert}
 use Rattle.std.proofs.lemmas.Bool.Decides.{nat_tests}
 use Rattle.kinds.specs.Rules.{Rule, Laws}
+use Rattle.kinds.specs.declared.Kind.{Ghosts}
 use Rattle.rows.specs.Layouts.{Sound, Edited, shape_of, list_of, room_of}
 use Rattle.rows.specs.Shape.{Shape, elements, Told, Summed}
 use Rattle.rows.specs.declared.Heads.{Heads}
@@ -13,7 +14,7 @@ use Rattle.rows.proofs.Ranges.{told_summed, summed_told}
 use Rattle.tree.specs.declared.Tree.{Tree}
 use Rattle.sequences.specs.Lists.{insert_answer, insert_list}
 
-pub laid : {K E S : Type 0} → Coded E → Coded S → (t : Tree K E S) → Sound t.store.rows.now t.heads
+pub laid : {K E S : Type 0} {gs : Ghosts K E S} → Coded E → Coded S → (t : Tree K E S gs) → Sound t.store.rows.now t.heads
 laid e s t = sound_out (Coded-set e) (Coded-set s) t.store.rows.now t.sound
 
 module _ {E S : Type 0} {m : Rule E S} {rows more : List (Row E S)} {heads : Heads} {xs : List E} {was : Type 0} (e : Edited m rows more heads xs was) where

@@ -1,5 +1,6 @@
 // The balanced tree: a sequence over rows that the caller lends.
 #![tactic(auto)]
+
 ghost use Rattle.std.specs.Prelude.{◌≡◌, ℕ, ◌≤◌, List, [], length};
 ghost use Rattle.kinds.specs.Rules.{summary};
 ghost use Rattle.rows.specs.Edits.{Whole, Replaced};
@@ -48,28 +49,28 @@ impl<'a, K: Kind> Store<'a, K> {
 
     fn range(&self, top: Option<u16>, i: u16, j: u16) -> K::Summary
         requires { (t : Shape K.Element K.Summary) × Rooted self.now.rows.now top t × (i ≤ j) × (j ≤ count_of t) }
-        ensures { (t : Shape K.Element K.Summary) → Rooted self.now.rows.now top t → i ≤ j → j ≤ count_of t → Told rule t → result ≡ summary rule (between i j (elements t)) }
+        ensures { (t : Shape K.Element K.Summary) → Rooted self.now.rows.now top t → i ≤ j → j ≤ count_of t → Told K.Kind.rule t → result ≡ summary K.Kind.rule (between i j (elements t)) }
     {
         range_summary::<K>(self.rows, top, i, j)
     }
 
     fn insert(&mut self, heads: Heads, i: u16, element: K::Element) -> Heads
         requires { (t : Shape K.Element K.Summary) × (fs : List ℕ) × HasRoom self.old.rows.now heads i t fs }
-        ensures { (t : Shape K.Element K.Summary) (fs : List ℕ) → HasRoom self.old.rows.now heads i t fs → Edited rule self.old.rows.now self.new.rows.now result (insert (elements t) i element) (Told rule t) }
+        ensures { (t : Shape K.Element K.Summary) (fs : List ℕ) → HasRoom self.old.rows.now heads i t fs → Edited K.Kind.rule self.old.rows.now self.new.rows.now result (insert (elements t) i element) (Told K.Kind.rule t) }
     {
         insert_element::<K>(self.rows, heads, i, element)
     }
 
     fn delete(&mut self, heads: Heads, i: u16) -> Heads
         requires { (t : Shape K.Element K.Summary) × (fs : List ℕ) × HasElement self.old.rows.now heads i t fs }
-        ensures { (t : Shape K.Element K.Summary) (fs : List ℕ) → HasElement self.old.rows.now heads i t fs → Edited rule self.old.rows.now self.new.rows.now result (remove (elements t) i) (Told rule t) }
+        ensures { (t : Shape K.Element K.Summary) (fs : List ℕ) → HasElement self.old.rows.now heads i t fs → Edited K.Kind.rule self.old.rows.now self.new.rows.now result (remove (elements t) i) (Told K.Kind.rule t) }
     {
         delete_element::<K>(self.rows, heads, i)
     }
 
     fn replace(&mut self, top: Option<u16>, i: u16, element: K::Element)
         requires { (t : Shape K.Element K.Summary) × Whole self.old.rows.now top t }
-        ensures { (t : Shape K.Element K.Summary) → Whole self.old.rows.now top t → Replaced rule self.old.rows.now self.new.rows.now i element top t }
+        ensures { (t : Shape K.Element K.Summary) → Whole self.old.rows.now top t → Replaced K.Kind.rule self.old.rows.now self.new.rows.now i element top t }
     {
         replace::<K>(self.rows, top, i, element);
     }
@@ -88,7 +89,7 @@ impl<'a, K: Kind> Tree<'a, K> {
     pub fn open(rows: &'a mut [Row<K::Element, K::Summary>]) -> Tree<'a, K>
         ensures list { list_of result.store.rows.now result.heads.top ≡ [] }
         ensures rows { result.store.rows.now ≡ rows.old }
-        ensures told { Summed rule (shape_of result.store.rows.now result.heads.top) }
+        ensures told { Summed K.Kind.rule (shape_of result.store.rows.now result.heads.top) }
     {
         Tree {
             store: Store { rows },

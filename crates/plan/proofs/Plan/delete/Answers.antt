@@ -19,12 +19,12 @@ returns-in-err-begin g c =
     let r = c.from-residual.result in
     let answer = λ (b : Model). delete_told b i in
     let altered = λ (b : Model). with_entries b (remove b.entries i) in
-    let past = begins_past (start_of p) (s.list p.blocks) i why (sym c.begin-of.ensures.value ∙ c.in-err-begin.was) in
+    let past = begins_past (start_of p) (s.list p.blocks) i why (sym c.begin_of.ensures.value ∙ c.in-err-begin.was) in
     record {
-      model = follows_refused s.list s.room s.told answer altered p c.begin-of.new.self r why
-          (passed_up r why c.from-residual.ensures.1) c.begin-of.ensures.same
+      model = follows_refused s.list s.room s.told answer altered p c.begin_of.new.self r why
+          (passed_up r why c.from-residual.ensures.1) c.begin_of.ensures.same
           (λ b k. place_answered s.list s.room s.told b p k i ∙ place_none (s.list p.blocks) i (omega (arith, past.0)) ∙ ap Err (sym past.1));
-      refused = λ _ _. c.begin-of.ensures.same;
+      refused = λ _ _. c.begin_of.ensures.same;
     }
 
 pub returns-in-err-delete : goal.returns-in-err-delete
@@ -32,17 +32,17 @@ returns-in-err-delete g c =
     let s = g.S.Sequence in
     let p = c.args.self.now in
     let i = c.args.i in
-    let here = c.begin-of.new.self in
+    let here = c.begin_of.new.self in
     let why = c.in-err-delete.field-0.0 in
     let r = c.from-residual-in-err-delete.result in
     let answer = λ (b : Model). delete_told b i in
     let altered = λ (b : Model). with_entries b (remove b.entries i) in
     let same = ap (λ z. record { start_x = here.start_x; start_y = here.start_y; start_z = here.start_z; blocks = z }) (c.delete.ensures.refused why c.in-err-delete.was) in
     record {
-      model = follows_from s.list s.room s.told answer _ p here _ r c.begin-of.ensures.same
+      model = follows_from s.list s.room s.told answer _ p here _ r c.begin_of.ensures.same
           (follows_refused s.list s.room s.told answer altered here _ r why (passed_up r why c.from-residual-in-err-delete.ensures.1) same
           (λ b k. place_answered s.list s.room s.told b here k i ∙ sym c.delete.ensures.value ∙ c.in-err-delete.was));
-      refused = λ _ _. same ∙ c.begin-of.ensures.same;
+      refused = λ _ _. same ∙ c.begin_of.ensures.same;
     }
 
 pub returns : goal.returns
@@ -50,22 +50,22 @@ returns g c =
     let s = g.S.Sequence in
     let p = c.args.self.now in
     let i = c.args.i in
-    let here = c.begin-of.new.self in
+    let here = c.begin_of.new.self in
     let xs = s.list here.blocks in
-    let end = c.begin-again.new.self in
+    let end = c.begin_again.new.self in
     let answer = λ (b : Model). delete_told b i in
     let altered = λ (b : Model). with_entries b (remove b.entries i) in
-    let accepted = sym c.delete.ensures.value ∙ c.in-ok-delete.was in
-    let asked = c.begin-of.ensures.same in
-    let begin = begins_at (start_of here) xs i _ (ap (λ z. begin_answer (start_of z) (s.list z.blocks) i) asked ∙ sym c.begin-of.ensures.value ∙ c.in-ok-begin.was) in
-    let made = c.begin-again.ensures.after ∙ ap (λ ys. begun_again ys i c.in-ok-begin.begin) c.delete.ensures.after ∙ ap (begun_again (delete_list xs i) i) begin in
+    let accepted = sym c.delete.ensures.value ∙ c.in_ok-delete.was in
+    let asked = c.begin_of.ensures.same in
+    let begin = begins_at (start_of here) xs i _ (ap (λ z. begin_answer (start_of z) (s.list z.blocks) i) asked ∙ sym c.begin_of.ensures.value ∙ c.in_ok-begin.was) in
+    let made = c.begin_again.ensures.after ∙ ap (λ ys. begun_again ys i c.in_ok-begin.begin) c.delete.ensures.after ∙ ap (begun_again (delete_list xs i) i) begin in
     record {
       model = follows_from s.list s.room s.told answer _ p here end (Ok tt) asked
           (follows_accepted s.list s.room s.told answer altered here end (Ok tt) tt refl
           (λ b k. (
             place_answered s.list s.room s.told b here k i ∙ accepted,
-            deleted_keeps s.list s.room s.told b here k end c.begin-again.ensures.start (c.begin-again.ensures.room ∙ c.delete.ensures.room)
-                (λ t. c.begin-again.ensures.told (c.delete.ensures.told t)) i accepted made,
+            deleted_keeps s.list s.room s.told b here k end c.begin_again.ensures.start (c.begin_again.ensures.room ∙ c.delete.ensures.room)
+                (λ t. c.begin_again.ensures.told (c.delete.ensures.told t)) i accepted made,
           )));
       refused = λ why e. absurd (not_both e);
     }

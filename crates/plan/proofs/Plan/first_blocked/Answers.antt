@@ -2,7 +2,7 @@ use Rattle.std.proofs.Common.{◌≡◌, ℕ, ◌+◌, ◌-◌, ◌/◌, ◌<◌
 use Rattle.std.proofs.lemmas.Bool.{cases_lt}
 use Rattle.motion.specs.ByParts.{run_down_to}
 use Rattle.motion.specs.Profiles.{Starts, FirstBlocked, first_blocked}
-use Rattle.motion.proofs.Blocking.{first-blocked}
+use Rattle.motion.proofs.Blocking.{first_blocked_first}
 use Rattle.motion.proofs.Parting.{blocked_by_parts}
 use Rattle.plan.proofs.Plan.first_blocked.Goals as goal
 
@@ -35,12 +35,12 @@ loop-low-preserved g c =
     let high = c.loop-low.high in
     let xs = s.list c.args.self.now.blocks in
     let down = below_high low high c.loop-low-test.true in (
-      c.greatest-start.ensures.same ∙ inv.0,
+      c.greatest_start.ensures.same ∙ inv.0,
       omega arith,
       omega (arith, inv.2),
       λ told none.
-          let known : c.greatest-start.result ≡ run_down_to xs (middle low high) = subst (λ z. s.told z.blocks → c.greatest-start.result ≡ run_down_to (s.list z.blocks) (middle low high)) inv.0 c.greatest-start.ensures.value told in
-          let past : first_blocked xs c.args.s ≤ middle low high = not_lt (λ before. let open-there = (blocked_by_parts xs c.args.s (middle low high) none (omega (arith, inv.2, c.requires))).0 before in omega (arith, c.if-s-greatest-start.false)) in
+          let known : c.greatest_start.result ≡ run_down_to xs (middle low high) = subst (λ z. s.told z.blocks → c.greatest_start.result ≡ run_down_to (s.list z.blocks) (middle low high)) inv.0 c.greatest_start.ensures.value told in
+          let past : first_blocked xs c.args.s ≤ middle low high = not_lt (λ before. let open-there = (blocked_by_parts xs c.args.s (middle low high) none (omega (arith, inv.2, c.requires))).0 before in omega (arith, c.if-s-greatest_start.false)) in
           ((inv.3 told none).0, past),
     )
 
@@ -52,12 +52,12 @@ loop-low-preserved-then-s-greatest-start g c =
     let high = c.loop-low.high in
     let xs = s.list c.args.self.now.blocks in
     let down = below_high low high c.loop-low-test.true in (
-      c.greatest-start.ensures.same ∙ inv.0,
+      c.greatest_start.ensures.same ∙ inv.0,
       omega arith,
       inv.2,
       λ told none.
-          let known : c.greatest-start.result ≡ run_down_to xs (middle low high) = subst (λ z. s.told z.blocks → c.greatest-start.result ≡ run_down_to (s.list z.blocks) (middle low high)) inv.0 c.greatest-start.ensures.value told in
-          let before = (blocked_by_parts xs c.args.s (middle low high) none (omega (arith, inv.2, c.requires))).1 (omega (arith, c.if-s-greatest-start.true)) in
+          let known : c.greatest_start.result ≡ run_down_to xs (middle low high) = subst (λ z. s.told z.blocks → c.greatest_start.result ≡ run_down_to (s.list z.blocks) (middle low high)) inv.0 c.greatest_start.ensures.value told in
+          let before = (blocked_by_parts xs c.args.s (middle low high) none (omega (arith, inv.2, c.requires))).1 (omega (arith, c.if-s-greatest_start.true)) in
           (omega arith, (inv.3 told none).1),
     )
 

@@ -11,12 +11,12 @@ returns-in-Ok g c =
     let s = g.S.Sequence in
     let xs = s.list c.args.self.now.blocks in
     let i = c.args.i in
-    let there = element_found xs i c.in-Ok.block (sym c.element-at.ensures.value ∙ c.in-Ok.is) in
-    let asked = c.element-at.ensures.same in
+    let there = element_found xs i c.in-Ok.block (sym c.element_at.ensures.value ∙ c.in-Ok.is) in
+    let asked = c.element_at.ensures.same in
     record {
-      after = c.replace.ensures.after ∙ replaced_set (s.list c.element-at.new.self) i _
-          ∙ ap (λ z. set (s.list z) i c.at-percent.result) asked
-          ∙ ap (set xs i) (c.at-percent.ensures ∙ ap (λ b. at_percent b c.args.percent) (there.1 idle));
+      after = c.replace.ensures.after ∙ replaced_set (s.list c.element_at.new.self) i _
+          ∙ ap (λ z. set (s.list z) i c.at_percent.result) asked
+          ∙ ap (set xs i) (c.at_percent.ensures ∙ ap (λ b. at_percent b c.args.percent) (there.1 idle));
       room = c.replace.ensures.room ∙ ap s.room asked;
       told = λ t. c.replace.ensures.told (subst s.told (sym asked) t);
       start = refl;
@@ -27,8 +27,8 @@ returns-in-default g c =
     let s = g.S.Sequence in
     let xs = s.list c.args.self.now.blocks in
     let i = c.args.i in
-    let none = element_missing xs i c.in-default.field-0 (sym c.element-at.ensures.value ∙ c.in-default.is) in
-    let asked = c.element-at.ensures.same in
+    let none = element_missing xs i c.in-default.field-0 (sym c.element_at.ensures.value ∙ c.in-default.is) in
+    let asked = c.element_at.ensures.same in
     record {
       after = ap s.list asked ∙ sym (set_past xs i (at_percent (get_or xs i idle) c.args.percent) none.0);
       room = ap s.room asked;

@@ -14,7 +14,7 @@ loop-k-preserved g c =
     let s = g.S.Sequence in
     let inv = c.loop-k.invariant in
     let k = c.loop-k.k in
-    let done = c.override-block.ensures in (
+    let done = c.override_block.ensures in (
       omega (arith, c.loop-k-test.true),
       done.after ∙ ap (λ bs. set bs k (at_percent (get_or bs k idle) c.args.percent)) inv.1
           ∙ changed_more (λ b. at_percent b c.args.percent) (s.list c.args.self.now.blocks) c.args.i k idle (omega (arith, c.loop-k.auto.k)) (omega (arith, c.loop-k-test.true, c.requires.within)),

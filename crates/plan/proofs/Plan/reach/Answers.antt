@@ -23,12 +23,12 @@ returns-in-err-check-range g c =
     let why = c.in-err-check-range.field-0.0 in
     let tells = λ (b : Model) (k : Keeps s.list s.room s.told b p).
     passed_up r why c.from-residual.ensures.1
-    ∙ sym (range_refused no_range (s.list p.blocks) i j (box_of (between i j (blocks_of b))) why (sym c.check-range.ensures.value ∙ c.in-err-check-range.was))
+    ∙ sym (range_refused no_range (s.list p.blocks) i j (box_of (between i j (blocks_of b))) why (sym c.check_range.ensures.value ∙ c.in-err-check-range.was))
     ∙ ranged_kept s.list s.room s.told b p k i j _ in
     record {
-      model = follows_question s.list s.room s.told (λ (b : Model). reach_told b i j) p _ r c.check-range.ensures.same tells;
+      model = follows_question s.list s.room s.told (λ (b : Model). reach_told b i j) p _ r c.check_range.ensures.same tells;
       right = λ b k. subst (ReachRight (blocks_of b) i j) (sym (tells b k)) (reach_right b i j k.entries);
-      same = c.check-range.ensures.same;
+      same = c.check_range.ensures.same;
     }
 
 pub returns-then-i-j : goal.returns-then-i-j
@@ -37,30 +37,30 @@ returns-then-i-j g c =
     let p = c.args.self.now in
     let i = c.args.i in
     let j = c.args.j in
-    let there = range_accepted no_range (s.list p.blocks) i j (sym c.check-range.ensures.value ∙ c.in-ok-check-range.was) in
+    let there = range_accepted no_range (s.list p.blocks) i j (sym c.check_range.ensures.value ∙ c.in_ok-check_range.was) in
     let tells = λ (b : Model) (k : Keeps s.list s.room s.told b p).
     ap (λ z. Ok (box_of z)) (sym (between_none (blocks_of b) i)) ∙ ap (λ z. Ok (box_of (between i z (blocks_of b)))) c.if-i-j.true
     ∙ sym (range_there no_range (s.list p.blocks) i j _ there.0 there.1)
     ∙ ranged_kept s.list s.room s.told b p k i j _ in
     record {
-      model = follows_question s.list s.room s.told (λ (b : Model). reach_told b i j) p _ (Ok None) c.check-range.ensures.same tells;
+      model = follows_question s.list s.room s.told (λ (b : Model). reach_told b i j) p _ (Ok None) c.check_range.ensures.same tells;
       right = λ b k. subst (ReachRight (blocks_of b) i j) (sym (tells b k)) (reach_right b i j k.entries);
-      same = c.check-range.ensures.same;
+      same = c.check_range.ensures.same;
     }
 
 pub returns : goal.returns
 returns g c =
     let s = g.S.Sequence in
     let p = c.args.self.now in
-    let here = c.check-range.new.self in
+    let here = c.check_range.new.self in
     let i = c.args.i in
     let j = c.args.j in
-    let asked = c.check-range.ensures.same in
-    let same = c.range-summary.ensures.same ∙ asked in
-    let there = range_accepted no_range (s.list p.blocks) i j (sym c.check-range.ensures.value ∙ c.in-ok-check-range.was) in
+    let asked = c.check_range.ensures.same in
+    let same = c.range_summary.ensures.same ∙ asked in
+    let there = range_accepted no_range (s.list p.blocks) i j (sym c.check_range.ensures.value ∙ c.in_ok-check_range.was) in
     let tells = λ (b : Model) (k : Keeps s.list s.room s.told b p).
     let here-keeps : Keeps s.list s.room s.told b here = subst (Keeps s.list s.room s.told b) (sym asked) k in
-    ap (λ z. Ok (Some z.second.first)) (c.range-summary.ensures.value here-keeps.sums)
+    ap (λ z. Ok (Some z.second.first)) (c.range_summary.ensures.value here-keeps.sums)
     ∙ ap (λ z. Ok (Some z)) (reach_part (between i j (s.list here.blocks)) ∙ ap (λ xs. summary reach_rule (between i j xs)) here-keeps.holds)
     ∙ ap Ok (sym (box_some s.list s.room s.told b p k i j (omega (arith, there.0, c.if-i-j.false)) there.1))
     ∙ sym (range_there no_range (s.list p.blocks) i j _ there.0 there.1)

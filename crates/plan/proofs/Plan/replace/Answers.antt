@@ -13,7 +13,7 @@ use Rattle.plan.proofs.Plan.replace.Goals as goal
 
 pub begin-next-requires : goal.begin-next-requires
 begin-next-requires g c =
-    replace_long _ _ c.args.i _ (sym c.replace.ensures.value ∙ c.in-ok-replace.was) c.replace.ensures.after
+    replace_long _ _ c.args.i _ (sym c.replace.ensures.value ∙ c.in_ok-replace.was) c.replace.ensures.after
 
 pub returns-in-err-check : goal.returns-in-err-check
 returns-in-err-check g c =
@@ -38,13 +38,13 @@ returns-in-err-begin g c =
     let r = c.from-residual-in-err-begin.result in
     let answer = λ (b : Model). replace_told b i c.args.m in
     let altered = λ (b : Model). with_entries b (set b.entries i (at_full c.args.m)) in
-    let past = begins_past (start_of p) (s.list p.blocks) i why (sym c.begin-of.ensures.value ∙ c.in-err-begin.was) in
+    let past = begins_past (start_of p) (s.list p.blocks) i why (sym c.begin_of.ensures.value ∙ c.in-err-begin.was) in
     record {
-      model = follows_refused s.list s.room s.told answer altered p c.begin-of.new.self r why
-          (passed_up r why c.from-residual-in-err-begin.ensures.1) c.begin-of.ensures.same
-          (λ b k. ap (λ z. checked z (place_answer b.entries i)) (sym c.check.ensures.value ∙ c.in-ok-check.was)
+      model = follows_refused s.list s.room s.told answer altered p c.begin_of.new.self r why
+          (passed_up r why c.from-residual-in-err-begin.ensures.1) c.begin_of.ensures.same
+          (λ b k. ap (λ z. checked z (place_answer b.entries i)) (sym c.check.ensures.value ∙ c.in_ok-check.was)
           ∙ place_answered s.list s.room s.told b p k i ∙ place_none (s.list p.blocks) i (omega (arith, past.0)) ∙ ap Err (sym past.1));
-      refused = λ _ _. c.begin-of.ensures.same;
+      refused = λ _ _. c.begin_of.ensures.same;
     }
 
 pub returns-in-err-replace : goal.returns-in-err-replace
@@ -52,18 +52,18 @@ returns-in-err-replace g c =
     let s = g.S.Sequence in
     let p = c.args.self.now in
     let i = c.args.i in
-    let here = c.begin-of.new.self in
+    let here = c.begin_of.new.self in
     let why = c.in-err-replace.field-0.0 in
     let r = c.from-residual-in-err-replace.result in
     let answer = λ (b : Model). replace_told b i c.args.m in
     let altered = λ (b : Model). with_entries b (set b.entries i (at_full c.args.m)) in
     let same = ap (λ z. record { start_x = here.start_x; start_y = here.start_y; start_z = here.start_z; blocks = z }) (c.replace.ensures.refused why c.in-err-replace.was) in
     record {
-      model = follows_from s.list s.room s.told answer _ p here _ r c.begin-of.ensures.same
+      model = follows_from s.list s.room s.told answer _ p here _ r c.begin_of.ensures.same
           (follows_refused s.list s.room s.told answer altered here _ r why (passed_up r why c.from-residual-in-err-replace.ensures.1) same
-          (λ b k. ap (λ z. checked z (place_answer b.entries i)) (sym c.check.ensures.value ∙ c.in-ok-check.was)
+          (λ b k. ap (λ z. checked z (place_answer b.entries i)) (sym c.check.ensures.value ∙ c.in_ok-check.was)
           ∙ place_answered s.list s.room s.told b here k i ∙ sym c.replace.ensures.value ∙ c.in-err-replace.was));
-      refused = λ _ _. same ∙ c.begin-of.ensures.same;
+      refused = λ _ _. same ∙ c.begin_of.ensures.same;
     }
 
 pub returns : goal.returns
@@ -72,24 +72,24 @@ returns g c =
     let p = c.args.self.now in
     let i = c.args.i in
     let m = c.args.m in
-    let here = c.begin-of.new.self in
+    let here = c.begin_of.new.self in
     let xs = s.list here.blocks in
-    let end = c.begin-next.new.self in
+    let end = c.begin_next.new.self in
     let answer = λ (b : Model). replace_told b i m in
     let altered = λ (b : Model). with_entries b (set b.entries i (at_full m)) in
-    let accepted = sym c.replace.ensures.value ∙ c.in-ok-replace.was in
-    let checks = sym c.check.ensures.value ∙ c.in-ok-check.was in
-    let asked = c.begin-of.ensures.same in
-    let begin = begins_at (start_of here) xs i _ (ap (λ z. begin_answer (start_of z) (s.list z.blocks) i) asked ∙ sym c.begin-of.ensures.value ∙ c.in-ok-begin.was) in
-    let made = c.begin-next.ensures.after
+    let accepted = sym c.replace.ensures.value ∙ c.in_ok-replace.was in
+    let checks = sym c.check.ensures.value ∙ c.in_ok-check.was in
+    let asked = c.begin_of.ensures.same in
+    let begin = begins_at (start_of here) xs i _ (ap (λ z. begin_answer (start_of z) (s.list z.blocks) i) asked ∙ sym c.begin_of.ensures.value ∙ c.in_ok-begin.was) in
+    let made = c.begin_next.ensures.after
     ∙ ap (λ ys. begun_again ys (suc i) m.target) (c.replace.ensures.after ∙ ap (replace_list xs i) (c.new.ensures ∙ ap (λ z. block_of z m 100) begin)) in
     record {
       model = follows_from s.list s.room s.told answer _ p here end (Ok tt) asked
           (follows_accepted s.list s.room s.told answer altered here end (Ok tt) tt refl
           (λ b k. (
             ap (λ z. checked z (place_answer b.entries i)) checks ∙ place_answered s.list s.room s.told b here k i ∙ accepted,
-            replaced_keeps s.list s.room s.told b here k end c.begin-next.ensures.start (c.begin-next.ensures.room ∙ c.replace.ensures.room)
-                (λ t. c.begin-next.ensures.told (c.replace.ensures.told t)) i m (c.check.ensures.valid.0 c.in-ok-check.was) accepted made,
+            replaced_keeps s.list s.room s.told b here k end c.begin_next.ensures.start (c.begin_next.ensures.room ∙ c.replace.ensures.room)
+                (λ t. c.begin_next.ensures.told (c.replace.ensures.told t)) i m (c.check.ensures.valid.0 c.in_ok-check.was) accepted made,
           )));
       refused = λ why e. absurd (not_both e);
     }

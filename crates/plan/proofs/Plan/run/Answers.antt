@@ -8,17 +8,17 @@ push-reserved-requires g c = omega (arith, c.loop-call.invariant.0, c.loop-call.
 pub loop-call-init : goal.loop-call-init
 loop-call-init g c =
     let s = g.S.Sequence in
-    let made = c.in-ok-answers.ensures in
+    let made = c.in_ok-answers.ensures in
     (made.len, made.capacity, λ b k. along_start s.list s.room s.told c.args.calls.now b c.args.self.now _ made.items k)
 
 pub loop-call-preserved : goal.loop-call-preserved
 loop-call-preserved g c =
     let s = g.S.Sequence in
     let inv = c.loop-call.invariant in (
-      omega (arith, c.push-reserved.ensures.len, inv.0),
-      omega (arith, c.push-reserved.ensures.capacity, inv.1),
+      omega (arith, c.push_reserved.ensures.len, inv.0),
+      omega (arith, c.push_reserved.ensures.capacity, inv.1),
       λ b k. along_more s.list s.room s.told c.args.calls.now b c.loop-call.call-index c.loop-call.self _ _ _ _ c.apply.result
-          (inv.2 b k) c.loop-call-test.true c.push-reserved.ensures.items c.apply.ensures.model c.apply.ensures.right,
+          (inv.2 b k) c.loop-call-test.true c.push_reserved.ensures.items c.apply.ensures.model c.apply.ensures.right,
     )
 
 pub returns : goal.returns

@@ -37,29 +37,29 @@ returns-in-err-check-range g c =
     let percent = c.args.percent in
     let r = c.from-residual.result in
     let why = c.in-err-check-range.field-0.0 in
-    let fit : percent_fits percent ≡ true = and_from (leb 10 percent) (leb percent 200) (le-leb 10 percent c.if-percent-lt-LEAST-PERCENT.false) (le-leb percent 200 c.if-percent-gt-MOST-PERCENT.false) in
+    let fit : percent_fits percent ≡ true = and_from (leb 10 percent) (leb percent 200) (le-leb 10 percent c.if-percent-lt-LEAST_PERCENT.false) (le-leb percent 200 c.if-percent-gt-MOST_PERCENT.false) in
     record {
       model = follows_refused s.list s.room s.told (λ (b : Model). override_told b i j percent) (λ (b : Model). with_entries b (changed_in (λ e. overridden e percent) b.entries i j)) p _ r why
-          (passed_up r why c.from-residual.ensures.1) c.check-range.ensures.same
+          (passed_up r why c.from-residual.ensures.1) c.check_range.ensures.same
           (λ b k. ap (λ t. cond t (ranged no_range b.entries i j tt) (Err Override)) fit
-          ∙ sym (ranged_kept s.list s.room s.told b p k i j tt) ∙ sym c.check-range.ensures.value ∙ c.in-err-check-range.was);
-      refused = λ _ _. c.check-range.ensures.same;
+          ∙ sym (ranged_kept s.list s.room s.told b p k i j tt) ∙ sym c.check_range.ensures.value ∙ c.in-err-check-range.was);
+      refused = λ _ _. c.check_range.ensures.same;
     }
 
 pub returns : goal.returns
 returns g c =
     let s = g.S.Sequence in
     let p = c.args.self.now in
-    let here = c.check-range.new.self in
-    let end = c.override-range.new.self in
+    let here = c.check_range.new.self in
+    let end = c.override_range.new.self in
     let i = c.args.i in
     let j = c.args.j in
     let percent = c.args.percent in
-    let asked = c.check-range.ensures.same in
-    let fit : percent_fits percent ≡ true = and_from (leb 10 percent) (leb percent 200) (le-leb 10 percent c.if-percent-lt-LEAST-PERCENT.false) (le-leb percent 200 c.if-percent-gt-MOST-PERCENT.false) in
-    let accepted : ranged no_range (s.list here.blocks) i j tt ≡ Ok tt = ap (λ z. ranged no_range (s.list z.blocks) i j tt) asked ∙ sym c.check-range.ensures.value ∙ c.in-ok-check-range.was in
+    let asked = c.check_range.ensures.same in
+    let fit : percent_fits percent ≡ true = and_from (leb 10 percent) (leb percent 200) (le-leb 10 percent c.if-percent-lt-LEAST_PERCENT.false) (le-leb percent 200 c.if-percent-gt-MOST_PERCENT.false) in
+    let accepted : ranged no_range (s.list here.blocks) i j tt ≡ Ok tt = ap (λ z. ranged no_range (s.list z.blocks) i j tt) asked ∙ sym c.check_range.ensures.value ∙ c.in_ok-check_range.was in
     let there = range_accepted no_range (s.list here.blocks) i j accepted in
-    let done = c.override-range.ensures in
+    let done = c.override_range.ensures in
     let answer = λ (b : Model). override_told b i j percent in
     let altered = λ (b : Model). with_entries b (changed_in (λ e. overridden e percent) b.entries i j) in
     record {
@@ -68,7 +68,7 @@ returns g c =
           (λ b k. (
             ap (λ t. cond t (ranged no_range b.entries i j tt) (Err Override)) fit ∙ sym (ranged_kept s.list s.room s.told b here k i j tt) ∙ accepted,
             overridden_keeps s.list s.room s.told b here k end done.start done.room done.told i j percent
-                c.if-percent-lt-LEAST-PERCENT.false c.if-percent-gt-MOST-PERCENT.false there.0 there.1 done.after,
+                c.if-percent-lt-LEAST_PERCENT.false c.if-percent-gt-MOST_PERCENT.false there.0 there.1 done.after,
           )));
       refused = λ why e. absurd (not_both e);
     }

@@ -6,27 +6,27 @@ use Rattle.rows.proofs.Nodes.{is_leaf, node_row}
 use Rattle.rows.proofs.Rotations.{part_sides, single_left, single_inner, single_outer, rotated_left, inner_left, double_left, double_x, double_y, double_p, double_q, twice_rotated_left}
 use Rattle.rows.proofs.balance.rotate_left.Goals as goal
 
-pub depth-of-requires : goal.depth-of-requires
-depth-of-requires g c = (c.requires.2, (node_row c.row-at-row.ensures c.requires.4.right_is.1).right)
+pub depth_of-requires : goal.depth_of-requires
+depth_of-requires g c = (c.requires.2, (node_row c.row_at-row.ensures c.requires.4.right_is.1).right)
 
-pub depth-of-requires-2 : goal.depth-of-requires-2
-depth-of-requires-2 g c = (c.requires.1, (node_row c.row-at-row.ensures c.requires.4.right_is.1).left)
+pub depth_of-requires-2 : goal.depth_of-requires-2
+depth_of-requires-2 g c = (c.requires.1, (node_row c.row_at-row.ensures c.requires.4.right_is.1).left)
 
 pub refresh-requires : goal.refresh-requires
 refresh-requires g c =
     let a = c.requires.1 in
     let l = c.requires.3 in
     let o = c.requires.4 in
-    let n = node_row c.row-at-row.ensures o.right_is.1 in
+    let n = node_row c.row_at-row.ensures o.right_is.1 in
     record { within = o.within; sides = part_sides o l a (omega arith) (omega arith) (omega arith) o.left_is n.left }
 
-pub refresh-requires-then-depth-of : goal.refresh-requires-then-depth-of
-refresh-requires-then-depth-of g c =
+pub refresh-requires-then-depth_of : goal.refresh-requires-then-depth_of
+refresh-requires-then-depth_of g c =
     let a = c.requires.1 in
     let b = c.requires.2 in
     let l = c.requires.3 in
     let o = c.requires.4 in
-    let n = node_row c.row-at-row.ensures o.right_is.1 in
+    let n = node_row c.row_at-row.ensures o.right_is.1 in
     let w = c.refresh.ensures l a o.left_is n.left in
     let k = single_left o in
     let inner = node_of g.K.Kind.rule c.args.p c.args.element l a in
@@ -39,23 +39,23 @@ pub unreachable-requires : goal.unreachable-requires
 unreachable-requires g c =
     let a = c.requires.1 in
     let b = c.requires.2 in
-    let n = node_row c.row-at-row.ensures c.requires.4.right_is.1 in
+    let n = node_row c.row_at-row.ensures c.requires.4.right_is.1 in
     let none = ap depth_of (is_leaf a (sym c.in-None.is ∙ n.left.0)) in
-    omega (arith, c.depth-of.ensures b n.right, c.depth-of-2.ensures a n.left, c.if-depth-of.false)
+    omega (arith, c.depth_of.ensures b n.right, c.depth_of-2.ensures a n.left, c.if-depth_of.false)
 
-pub row-at-inner-requires : goal.row-at-inner-requires
-row-at-inner-requires g c =
+pub row_at-inner-requires : goal.row_at-inner-requires
+row_at-inner-requires g c =
     let o = c.requires.4 in
-    let n = node_row c.row-at-row.ensures o.right_is.1 in
+    let n = node_row c.row_at-row.ensures o.right_is.1 in
     (double_left (inner_left o c.in-Some.is n.left.0).whole).s_within
 
 pub refresh-requires-in-Some : goal.refresh-requires-in-Some
 refresh-requires-in-Some g c =
     let l = c.requires.3 in
     let o = c.requires.4 in
-    let n = node_row c.row-at-row.ensures o.right_is.1 in
+    let n = node_row c.row_at-row.ensures o.right_is.1 in
     let i = inner_left o c.in-Some.is n.left.0 in
-    let v = node_row c.row-at-inner.ensures i.whole.right_is.1.2 in
+    let v = node_row c.row_at-inner.ensures i.whole.right_is.1.2 in
     record { within = o.within; sides = part_sides i.whole l i.c (omega arith) (omega arith) (omega arith) o.left_is v.left }
 
 pub refresh-requires-in-Some-2 : goal.refresh-requires-in-Some-2
@@ -63,9 +63,9 @@ refresh-requires-in-Some-2 g c =
     let b = c.requires.2 in
     let l = c.requires.3 in
     let o = c.requires.4 in
-    let n = node_row c.row-at-row.ensures o.right_is.1 in
+    let n = node_row c.row_at-row.ensures o.right_is.1 in
     let i = inner_left o c.in-Some.is n.left.0 in
-    let v = node_row c.row-at-inner.ensures i.whole.right_is.1.2 in
+    let v = node_row c.row_at-inner.ensures i.whole.right_is.1.2 in
     let w1 = c.refresh-in-Some.ensures l i.c o.left_is v.left in
     let k = double_left i.whole in
     record {
@@ -79,41 +79,41 @@ refresh-requires-in-Some-3 g c =
     let b = c.requires.2 in
     let l = c.requires.3 in
     let o = c.requires.4 in
-    let n = node_row c.row-at-row.ensures o.right_is.1 in
+    let n = node_row c.row_at-row.ensures o.right_is.1 in
     let i = inner_left o c.in-Some.is n.left.0 in
-    let v = node_row c.row-at-inner.ensures i.whole.right_is.1.2 in
+    let v = node_row c.row_at-inner.ensures i.whole.right_is.1.2 in
     let w1 = c.refresh-in-Some.ensures l i.c o.left_is v.left in
     let k = double_left i.whole in
     let w2 = c.refresh-in-Some-2.ensures i.d b (v.right.0, double_x k w1) (n.right.0, double_y k w1) in
-    let nq = node_of m c.args.q c.row-at-row.result.element i.d b in
+    let nq = node_of m c.args.q c.row_at-row.result.element i.d b in
     let np = node_of m c.args.p c.args.element l i.c in
     record {
       within = within_put w2 c.in-Some.s (within_put w1 c.in-Some.s k.s_within);
       sides = part_sides i.whole np nq (omega arith) (omega arith) (omega arith) (refl, double_p k w1 w2) (refl, double_q k w1 w2);
     }
 
-pub returns-then-depth-of : goal.returns-then-depth-of
-returns-then-depth-of g c = λ x a b l o tall.
-    let n = node_row c.row-at-row.ensures o.right_is.1 in
+pub returns-then-depth_of : goal.returns-then-depth_of
+returns-then-depth_of g c = λ x a b l o tall.
+    let n = node_row c.row_at-row.ensures o.right_is.1 in
     let w = c.refresh.ensures l a o.left_is n.left in
     let k = single_left o in
     let inner = node_of g.K.Kind.rule c.args.p c.args.element l a in
-    let w2 = c.refresh-then-depth-of.ensures inner b (refl, single_inner k w) (n.right.0, single_outer k w) in
-    rotated_left o tall w n.element w2 (omega (arith, c.depth-of.ensures b n.right, c.depth-of-2.ensures a n.left, c.if-depth-of.true))
+    let w2 = c.refresh-then-depth_of.ensures inner b (refl, single_inner k w) (n.right.0, single_outer k w) in
+    rotated_left o tall w n.element w2 (omega (arith, c.depth_of.ensures b n.right, c.depth_of-2.ensures a n.left, c.if-depth_of.true))
 
 pub returns-in-Some : goal.returns-in-Some
 returns-in-Some g c = λ x a b l o tall.
     let m = g.K.Kind.rule in
-    let n = node_row c.row-at-row.ensures o.right_is.1 in
+    let n = node_row c.row_at-row.ensures o.right_is.1 in
     let i = inner_left o c.in-Some.is n.left.0 in
-    let v = node_row c.row-at-inner.ensures i.whole.right_is.1.2 in
+    let v = node_row c.row_at-inner.ensures i.whole.right_is.1.2 in
     let w1 = c.refresh-in-Some.ensures l i.c o.left_is v.left in
     let k = double_left i.whole in
     let w2 = c.refresh-in-Some-2.ensures i.d b (v.right.0, double_x k w1) (n.right.0, double_y k w1) in
-    let nq = node_of m c.args.q c.row-at-row.result.element i.d b in
+    let nq = node_of m c.args.q c.row_at-row.result.element i.d b in
     let np = node_of m c.args.p c.args.element l i.c in
     let w3 = c.refresh-in-Some-3.ensures np nq (refl, double_p k w1 w2) (refl, double_q k w1 w2) in
-    let deeper : depth_of b < depth_of (node c.in-Some.s i.y i.c i.d) = omega (arith, ap depth_of i.is, c.depth-of.ensures b n.right, c.depth-of-2.ensures a n.left, c.if-depth-of.false) in
+    let deeper : depth_of b < depth_of (node c.in-Some.s i.y i.c i.d) = omega (arith, ap depth_of i.is, c.depth_of.ensures b n.right, c.depth_of-2.ensures a n.left, c.if-depth_of.false) in
     let tall' : depth_of l + 1 < depth_of (node c.args.q x (node c.in-Some.s i.y i.c i.d) b) = omega (arith, ap depth_of i.is) in
     subst (λ z. Rebalanced m c.args.rows.now c.refresh-in-Some-3.new.rows c.args.p c.args.element c.in-Some.s l (node c.args.q x z b)) (sym i.is)
     (twice_rotated_left i.whole tall' deeper w1 n.element w2 v.element w3)

@@ -1,5 +1,5 @@
 use Rattle.rows.specs.Shape.{depth_at}
 use Rattle.rows.proofs.path.+element_at.Given as goal
 
-abbrev pub decreases-element-at : goal.decreases-element-at
-decreases-element-at g l = depth_at l.rows.now l.side
+abbrev pub decreases-element_at : goal.decreases-element_at
+decreases-element_at g l = depth_at l.rows.now l.side

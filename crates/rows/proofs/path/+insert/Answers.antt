@@ -6,42 +6,42 @@ use Rattle.rows.proofs.Nodes.{is_leaf, top_row, falls_left, falls_right}
 use Rattle.rows.proofs.SideEdits.{ready_left, ready_right}
 use Rattle.rows.proofs.path.+insert.Goals as goal
 
-pub count-of-before-requires : goal.count-of-before-requires
-count-of-before-requires g t c =
-    let n = top_row c.requires.0 c.in-Some.is c.row-at-row.ensures c.requires.1.rooted in
+pub count_of-before-requires : goal.count_of-before-requires
+count_of-before-requires g t c =
+    let n = top_row c.requires.0 c.in-Some.is c.row_at-row.ensures c.requires.1.rooted in
     (n.l, n.left)
 
 pub insert-left-requires : goal.insert-left-requires
 insert-left-requires g t c κs =
-    let n = top_row c.requires.0 c.in-Some.is c.row-at-row.ensures c.requires.1.rooted in
+    let n = top_row c.requires.0 c.in-Some.is c.row_at-row.ensures c.requires.1.rooted in
     let o = subst (Insert c.args.rows.now c.args.top c.args.i c.args.fresh) n.is c.requires.1 in
-    let k = c.count-of-before.ensures n.l n.left in
+    let k = c.count_of-before.ensures n.l n.left in
     let i = insert_left o n.left (omega (arith, k, c.if-i-before.true)) in
     λ ls. (falls_left n c.decreases _ n.left, (ls.0, (ls.1.0, (ls.1.1, (n.l, i)))))
 
 pub rebalance-requires : goal.rebalance-requires
 rebalance-requires g t c =
-    let n = top_row c.requires.0 c.in-Some.is c.row-at-row.ensures c.requires.1.rooted in
+    let n = top_row c.requires.0 c.in-Some.is c.row_at-row.ensures c.requires.1.rooted in
     let o = subst (Insert c.args.rows.now c.args.top c.args.i c.args.fresh) n.is c.requires.1 in
-    let k = c.count-of-before.ensures n.l n.left in
+    let k = c.count_of-before.ensures n.l n.left in
     let h : c.args.i ≤ count_of n.l = omega (arith, k, c.if-i-before.true) in
     let d = c.insert-left.ensures n.l (insert_left o n.left h) in
     (d.t, n.r, ready_left (beside_left o c.args.element d n.right h))
 
 pub insert-right-requires : goal.insert-right-requires
 insert-right-requires g t c κs =
-    let n = top_row c.requires.0 c.in-Some.is c.row-at-row.ensures c.requires.1.rooted in
+    let n = top_row c.requires.0 c.in-Some.is c.row_at-row.ensures c.requires.1.rooted in
     let o = subst (Insert c.args.rows.now c.args.top c.args.i c.args.fresh) n.is c.requires.1 in
-    let k = c.count-of-before.ensures n.l n.left in
-    let i = insert_right o (c.args.i - c.count-of-before.result - 1) n.right (omega (arith, k, c.if-i-before.false)) in
+    let k = c.count_of-before.ensures n.l n.left in
+    let i = insert_right o (c.args.i - c.count_of-before.result - 1) n.right (omega (arith, k, c.if-i-before.false)) in
     λ ls. (falls_right n c.decreases _ n.right, (ls.0, (ls.1.0, (ls.1.1, (n.r, i)))))
 
 pub rebalance-requires-else-i-before : goal.rebalance-requires-else-i-before
 rebalance-requires-else-i-before g t c =
-    let n = top_row c.requires.0 c.in-Some.is c.row-at-row.ensures c.requires.1.rooted in
+    let n = top_row c.requires.0 c.in-Some.is c.row_at-row.ensures c.requires.1.rooted in
     let o = subst (Insert c.args.rows.now c.args.top c.args.i c.args.fresh) n.is c.requires.1 in
-    let k = c.count-of-before.ensures n.l n.left in
-    let j = c.args.i - c.count-of-before.result - 1 in
+    let k = c.count_of-before.ensures n.l n.left in
+    let j = c.args.i - c.count_of-before.result - 1 in
     let h : c.args.i ≡ count_of n.l + suc j = omega (arith, k, c.if-i-before.false) in
     let d = c.insert-right.ensures n.r (insert_right o j n.right h) in
     (n.l, d.t, ready_right (beside_right o c.args.element j d n.left h))
@@ -55,9 +55,9 @@ returns-in-None g t c = λ u o.
 
 pub returns-then-i-before : goal.returns-then-i-before
 returns-then-i-before g t c = λ u v.
-    let n = top_row u c.in-Some.is c.row-at-row.ensures v.rooted in
+    let n = top_row u c.in-Some.is c.row_at-row.ensures v.rooted in
     let o = subst (Insert c.args.rows.now c.args.top c.args.i c.args.fresh) n.is v in
-    let k = c.count-of-before.ensures n.l n.left in
+    let k = c.count_of-before.ensures n.l n.left in
     let h : c.args.i ≤ count_of n.l = omega (arith, k, c.if-i-before.true) in
     let d = c.insert-left.ensures n.l (insert_left o n.left h) in
     let b = beside_left o c.args.element d n.right h in
@@ -67,10 +67,10 @@ returns-then-i-before g t c = λ u v.
 
 pub returns-else-i-before : goal.returns-else-i-before
 returns-else-i-before g t c = λ u v.
-    let n = top_row u c.in-Some.is c.row-at-row.ensures v.rooted in
+    let n = top_row u c.in-Some.is c.row_at-row.ensures v.rooted in
     let o = subst (Insert c.args.rows.now c.args.top c.args.i c.args.fresh) n.is v in
-    let k = c.count-of-before.ensures n.l n.left in
-    let j = c.args.i - c.count-of-before.result - 1 in
+    let k = c.count_of-before.ensures n.l n.left in
+    let j = c.args.i - c.count_of-before.result - 1 in
     let h : c.args.i ≡ count_of n.l + suc j = omega (arith, k, c.if-i-before.false) in
     let d = c.insert-right.ensures n.r (insert_right o j n.right h) in
     let b = beside_right o c.args.element j d n.left h in

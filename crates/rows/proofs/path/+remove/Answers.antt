@@ -8,71 +8,71 @@ use Rattle.rows.proofs.Removes.{removed_left, removed_right, removed_mid, count_
 use Rattle.rows.proofs.SideEdits.{ready_left, ready_right}
 use Rattle.rows.proofs.path.+remove.Goals as goal
 
-pub count-of-before-requires : goal.count-of-before-requires
-count-of-before-requires g t c =
-    let n = top_row c.requires.0 refl c.row-at-row.ensures c.requires.1.whole.rooted in
+pub count_of-before-requires : goal.count_of-before-requires
+count_of-before-requires g t c =
+    let n = top_row c.requires.0 refl c.row_at-row.ensures c.requires.1.whole.rooted in
     (n.l, n.left)
 
 pub unreachable-requires : goal.unreachable-requires
 unreachable-requires g t c =
-    let n = top_row c.requires.0 refl c.row-at-row.ensures c.requires.1.whole.rooted in
+    let n = top_row c.requires.0 refl c.row_at-row.ensures c.requires.1.whole.rooted in
     let none = ap count_of (is_leaf n.l (sym c.in-None.is ∙ n.left.0)) in
-    omega (arith, c.count-of-before.ensures n.l n.left, c.if-i-before.true)
+    omega (arith, c.count_of-before.ensures n.l n.left, c.if-i-before.true)
 
 pub remove-out-requires : goal.remove-out-requires
 remove-out-requires g t c κs =
-    let n = top_row c.requires.0 refl c.row-at-row.ensures c.requires.1.whole.rooted in
+    let n = top_row c.requires.0 refl c.row_at-row.ensures c.requires.1.whole.rooted in
     let o = subst (Remove c.args.rows.now (Some c.args.p) c.args.i) n.is c.requires.1 in
     let s : Rooted c.args.rows.now (Some c.in-Some.q) n.l = (sym c.in-Some.is ∙ n.left.0, n.left.1) in
-    let h : c.args.i < count_of n.l = omega (arith, c.count-of-before.ensures n.l n.left, c.if-i-before.true) in
+    let h : c.args.i < count_of n.l = omega (arith, c.count_of-before.ensures n.l n.left, c.if-i-before.true) in
     λ ls. (falls_left n c.decreases _ s, (ls.0, (ls.1.0, (ls.1.1, (n.l, record { whole = whole_left o.whole s; inside = h })))))
 
 pub rebalance-top-requires : goal.rebalance-top-requires
 rebalance-top-requires g t c =
-    let n = top_row c.requires.0 refl c.row-at-row.ensures c.requires.1.whole.rooted in
+    let n = top_row c.requires.0 refl c.row_at-row.ensures c.requires.1.whole.rooted in
     let o = subst (Remove c.args.rows.now (Some c.args.p) c.args.i) n.is c.requires.1 in
     let s : Rooted c.args.rows.now (Some c.in-Some.q) n.l = (sym c.in-Some.is ∙ n.left.0, n.left.1) in
-    let h : c.args.i < count_of n.l = omega (arith, c.count-of-before.ensures n.l n.left, c.if-i-before.true) in
+    let h : c.args.i < count_of n.l = omega (arith, c.count_of-before.ensures n.l n.left, c.if-i-before.true) in
     let d = c.remove-out.ensures n.l (record { whole = whole_left o.whole s; inside = h }) in
     (d.edit.t, n.r, ready_left (fewer_left o.whole _ d.edit n.right (count_removed n.l c.args.i h)))
 
 pub unreachable-requires-in-None-right : goal.unreachable-requires-in-None-right
 unreachable-requires-in-None-right g t c =
-    let n = top_row c.requires.0 refl c.row-at-row.ensures c.requires.1.whole.rooted in
+    let n = top_row c.requires.0 refl c.row_at-row.ensures c.requires.1.whole.rooted in
     let o = subst (Remove c.args.rows.now (Some c.args.p) c.args.i) n.is c.requires.1 in
     let none = ap count_of (is_leaf n.r (sym c.in-None-right.is ∙ n.right.0)) in
-    omega (arith, o.inside, c.count-of-before.ensures n.l n.left, c.if-i-before-2.true)
+    omega (arith, o.inside, c.count_of-before.ensures n.l n.left, c.if-i-before-2.true)
 
 pub remove-out-requires-in-Some-right : goal.remove-out-requires-in-Some-right
 remove-out-requires-in-Some-right g t c κs =
-    let n = top_row c.requires.0 refl c.row-at-row.ensures c.requires.1.whole.rooted in
+    let n = top_row c.requires.0 refl c.row_at-row.ensures c.requires.1.whole.rooted in
     let o = subst (Remove c.args.rows.now (Some c.args.p) c.args.i) n.is c.requires.1 in
     let s : Rooted c.args.rows.now (Some c.in-Some-right.q) n.r = (sym c.in-Some-right.is ∙ n.right.0, n.right.1) in
-    let h : c.args.i - c.count-of-before.result - 1 < count_of n.r = omega (arith, o.inside, c.count-of-before.ensures n.l n.left, c.if-i-before-2.true) in
+    let h : c.args.i - c.count_of-before.result - 1 < count_of n.r = omega (arith, o.inside, c.count_of-before.ensures n.l n.left, c.if-i-before-2.true) in
     λ ls. (falls_right n c.decreases _ s, (ls.0, (ls.1.0, (ls.1.1, (n.r, record { whole = whole_right o.whole s; inside = h })))))
 
 pub rebalance-top-requires-in-Some-right : goal.rebalance-top-requires-in-Some-right
 rebalance-top-requires-in-Some-right g t c =
-    let n = top_row c.requires.0 refl c.row-at-row.ensures c.requires.1.whole.rooted in
+    let n = top_row c.requires.0 refl c.row_at-row.ensures c.requires.1.whole.rooted in
     let o = subst (Remove c.args.rows.now (Some c.args.p) c.args.i) n.is c.requires.1 in
     let s : Rooted c.args.rows.now (Some c.in-Some-right.q) n.r = (sym c.in-Some-right.is ∙ n.right.0, n.right.1) in
-    let j = c.args.i - c.count-of-before.result - 1 in
-    let h : j < count_of n.r = omega (arith, o.inside, c.count-of-before.ensures n.l n.left, c.if-i-before-2.true) in
+    let j = c.args.i - c.count_of-before.result - 1 in
+    let h : j < count_of n.r = omega (arith, o.inside, c.count_of-before.ensures n.l n.left, c.if-i-before-2.true) in
     let d = c.remove-out-in-Some-right.ensures n.r (record { whole = whole_right o.whole s; inside = h }) in
     (n.l, d.edit.t, ready_right (fewer_right o.whole _ d.edit n.left (count_removed n.r j h)))
 
-pub merge-sides-rest-requires : goal.merge-sides-rest-requires
-merge-sides-rest-requires g t c =
-    let n = top_row c.requires.0 refl c.row-at-row.ensures c.requires.1.whole.rooted in
+pub merge_sides-rest-requires : goal.merge_sides-rest-requires
+merge_sides-rest-requires g t c =
+    let n = top_row c.requires.0 refl c.row_at-row.ensures c.requires.1.whole.rooted in
     let o = subst (Remove c.args.rows.now (Some c.args.p) c.args.i) n.is c.requires.1 in
     (c.args.p, n.x, n.l, n.r, o.whole, n.left, n.right)
 
 pub returns-in-Some : goal.returns-in-Some
 returns-in-Some g t c = λ u v.
-    let n = top_row u refl c.row-at-row.ensures v.whole.rooted in
+    let n = top_row u refl c.row_at-row.ensures v.whole.rooted in
     let o = subst (Remove c.args.rows.now (Some c.args.p) c.args.i) n.is v in
     let s : Rooted c.args.rows.now (Some c.in-Some.q) n.l = (sym c.in-Some.is ∙ n.left.0, n.left.1) in
-    let h : c.args.i < count_of n.l = omega (arith, c.count-of-before.ensures n.l n.left, c.if-i-before.true) in
+    let h : c.args.i < count_of n.l = omega (arith, c.count_of-before.ensures n.l n.left, c.if-i-before.true) in
     let d = c.remove-out.ensures n.l (record { whole = whole_left o.whole s; inside = h }) in
     let b = fewer_left o.whole _ d.edit n.right (count_removed n.l c.args.i h) in
     let a = c.rebalance-top.ensures d.edit.t n.r (ready_left b) in
@@ -83,11 +83,11 @@ returns-in-Some g t c = λ u v.
 
 pub returns-in-Some-right : goal.returns-in-Some-right
 returns-in-Some-right g t c = λ u v.
-    let n = top_row u refl c.row-at-row.ensures v.whole.rooted in
+    let n = top_row u refl c.row_at-row.ensures v.whole.rooted in
     let o = subst (Remove c.args.rows.now (Some c.args.p) c.args.i) n.is v in
     let s : Rooted c.args.rows.now (Some c.in-Some-right.q) n.r = (sym c.in-Some-right.is ∙ n.right.0, n.right.1) in
-    let j = c.args.i - c.count-of-before.result - 1 in
-    let k = c.count-of-before.ensures n.l n.left in
+    let j = c.args.i - c.count_of-before.result - 1 in
+    let k = c.count_of-before.ensures n.l n.left in
     let h : j < count_of n.r = omega (arith, o.inside, c.if-i-before-2.true) in
     let d = c.remove-out-in-Some-right.ensures n.r (record { whole = whole_right o.whole s; inside = h }) in
     let b = fewer_right o.whole _ d.edit n.left (count_removed n.r j h) in
@@ -100,14 +100,14 @@ returns-in-Some-right g t c = λ u v.
 pub returns-else-i-before-2 : goal.returns-else-i-before-2
 returns-else-i-before-2 g t c = λ u v.
     let m = g.K.Kind.rule in
-    let n = top_row u refl c.row-at-row.ensures v.whole.rooted in
+    let n = top_row u refl c.row_at-row.ensures v.whole.rooted in
     let o = subst (Remove c.args.rows.now (Some c.args.p) c.args.i) n.is v in
-    let k = c.count-of-before.ensures n.l n.left in
+    let k = c.count_of-before.ensures n.l n.left in
     let me = same_self c.args.p in
     let list = removed_mid (elements n.l) (elements n.r) n.x.element c.args.i (omega (arith, length_elements n.l, c.if-i-before.false, c.if-i-before-2.false)) in
-    let d = c.merge-sides-rest.ensures c.args.p n.x n.l n.r o.whole n.left n.right in
-    subst (Removed m c.args.rows.now c.merge-sides-rest.new.rows c.args.p c.args.i c.merge-sides-rest.result) (sym n.is)
+    let d = c.merge_sides-rest.ensures c.args.p n.x n.l n.r o.whole n.left n.right in
+    subst (Removed m c.args.rows.now c.merge_sides-rest.new.rows c.args.p c.args.i c.merge_sides-rest.result) (sym n.is)
     (record {
       there = omega (arith, o.whole.apart c.args.p);
-      edit = subst (λ z. Taken m c.args.rows.now c.merge-sides-rest.new.rows c.merge-sides-rest.result c.args.p z (node c.args.p n.x n.l n.r)) (sym list) d;
+      edit = subst (λ z. Taken m c.args.rows.now c.merge_sides-rest.new.rows c.merge_sides-rest.result c.args.p z (node c.args.p n.x n.l n.r)) (sym list) d;
     })

@@ -8,8 +8,8 @@ unreachable-requires g c =
     let h = c.in-None.ensures c.requires.1 o.layout.free_list in
     omega (arith, h.0, h.1, o.room, o.layout.many)
 
-pub take-free-requires : goal.take-free-requires
-take-free-requires g c = (c.requires.1, c.requires.2.layout.free_list)
+pub take_free-requires : goal.take_free-requires
+take_free-requires g c = (c.requires.1, c.requires.2.layout.free_list)
 
 pub insert-top-requires : goal.insert-top-requires
 insert-top-requires g c =

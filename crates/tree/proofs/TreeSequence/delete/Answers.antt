@@ -11,11 +11,11 @@ delete-self-requires g c =
     let s = laid g.row.K-Element.coded g.row.K-Summary.coded c.args.self.now in
     (_, _, has_element c.args.i c.len.result s c.len.ensures.value c.if-i-len.false)
 
-pub invariant-of-self : goal.invariant-of-self
-invariant-of-self g c =
+pub invariant_of-self : goal.invariant_of-self
+invariant_of-self g c =
     let s = laid g.row.K-Element.coded g.row.K-Summary.coded c.args.self.now in
     let e = c.delete-self.ensures _ _ (has_element c.args.i c.len.result s c.len.ensures.value c.if-i-len.false) in
-    (∣ sound e.layout ∣₁, tt)
+    record { sound = ∣ sound e.layout ∣₁ }
 
 pub returns : goal.returns
 returns g c =
@@ -27,6 +27,6 @@ returns g c =
       value = sym (place_there xs c.args.i inside);
       after = edited_list e ∙ sym (deleted xs c.args.i inside);
       room = edited_room e;
-      told = edited_told g.row.K-Kind.laws _ e;
+      told = edited_told g.K.Kind.laws _ e;
       refused = λ why no. let z : ◌≡◌ {A = ℕ} 0 1 = cc in absurd (omega arith);
     }

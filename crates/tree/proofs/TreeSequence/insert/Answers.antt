@@ -12,13 +12,13 @@ insert-self-requires g c =
     let free : n.result < room_of c.args.self.now.store.rows.now = grind (arith, n.ensures.within, c.room.ensures, c.if-count-room.false) in
     (_, _, has_room c.args.i n.result s n.ensures.value (omega (arith, c.if-i-count.false)) free)
 
-pub invariant-of-self : goal.invariant-of-self
-invariant-of-self g c =
+pub invariant_of-self : goal.invariant_of-self
+invariant_of-self g c =
     let s = laid g.row.K-Element.coded g.row.K-Summary.coded c.args.self.now in
     let n = c.len-count in
     let free : n.result < room_of c.args.self.now.store.rows.now = grind (arith, n.ensures.within, c.room.ensures, c.if-count-room.false) in
     let e = c.insert-self.ensures _ _ (has_room c.args.i n.result s n.ensures.value (omega (arith, c.if-i-count.false)) free) in
-    (∣ sound e.layout ∣₁, tt)
+    record { sound = ∣ sound e.layout ∣₁ }
 
 pub returns : goal.returns
 returns g c =
@@ -34,6 +34,6 @@ returns g c =
       value = sym (insert_there xs room c.args.i within fits);
       after = edited_list e ∙ sym (inserted_there xs room c.args.i within fits c.args.element);
       room = edited_room e;
-      told = edited_told g.row.K-Kind.laws _ e;
+      told = edited_told g.K.Kind.laws _ e;
       refused = λ why no. let z : ◌≡◌ {A = ℕ} 0 1 = cc in absurd (omega arith);
     }

@@ -24,6 +24,6 @@ returns g c =
     let inside : j ≤ length (elements t) = omega (arith, c.len.ensures.value, c.if-j-len.false) in
     record {
       outcome = sym (range_there no_place (elements t) i j tt order inside);
-      value = λ told. ap Ok (c.range.ensures t s.rooted order (omega (arith, length_elements t)) (summed_told g.row.K-Kind.laws t told)) ∙ sym (range_there no_place (elements t) i j _ order inside);
+      value = λ told. ap Ok (c.range.ensures t s.rooted order (omega (arith, length_elements t)) (summed_told g.K.Kind.laws t told)) ∙ sym (range_there no_place (elements t) i j _ order inside);
       same = refl;
     }

@@ -11,11 +11,11 @@ replace-requires g c =
     let s = laid g.row.K-Element.coded g.row.K-Summary.coded c.args.self.now in
     (_, whole s)
 
-pub invariant-of-self : goal.invariant-of-self
-invariant-of-self g c =
+pub invariant_of-self : goal.invariant_of-self
+invariant_of-self g c =
     let s = laid g.row.K-Element.coded g.row.K-Summary.coded c.args.self.now in
     let e = replace_ends c.args.i c.args.element s (c.replace.ensures _ (whole s)) in
-    (∣ sound e.layout ∣₁, tt)
+    record { sound = ∣ sound e.layout ∣₁ }
 
 pub returns : goal.returns
 returns g c =
@@ -27,6 +27,6 @@ returns g c =
       value = sym (place_there xs c.args.i inside);
       after = edited_list e ∙ sym (replaced xs c.args.i c.args.element inside);
       room = edited_room e;
-      told = edited_told g.row.K-Kind.laws _ e;
+      told = edited_told g.K.Kind.laws _ e;
       refused = λ why no. let z : ◌≡◌ {A = ℕ} 0 1 = cc in absurd (omega arith);
     }
