@@ -1,12 +1,12 @@
 -- Edits of the blocks that follow edits of the model.
-use Rattle.std.proofs.Common.{◌≡◌, ℕ, suc, ◌+◌, ◌<◌, ◌≤◌, cond, ltb, List, [], ◌∷◌, length, set, ℤ, Ok, Err, Result, sym, refl, ap, ◌∙◌, subst, ⊎_elim, arith}
+use Rattle.std.proofs.Common.{◌≡◌, ℕ, suc, ◌+◌, ◌<◌, cond, List, [], ◌∷◌, length, set, ℤ, Ok, Err, sym, refl, ap, ◌∙◌, ⊎_elim, arith}
 use Rattle.std.specs.List.{insert, remove}
 use Rattle.std.proofs.lemmas.List.Edits.{length-insert}
 use Rattle.std.proofs.lemmas.List.{length-set}
 use Rattle.std.proofs.lemmas.Bool.{cases_lt, lt-ltb, le-ltb}
 use Rattle.refusals.specs.declared.Refusal.{Refusal}
 use Rattle.sequences.specs.Lists.{no_place, insert_answer, insert_list, place_answer, delete_list, replace_list}
-use Rattle.sequences.proofs.Rulings.{insert_by_length, place_by_length, insert_accepted, insert_past, place_accepted, place_none, deleted, replaced, not_both}
+use Rattle.sequences.proofs.Rulings.{insert_by_length, place_by_length, insert_accepted, place_accepted, deleted, replaced, not_both}
 use Rattle.motion.specs.declared.blocks.Block.{Block}
 use Rattle.motion.specs.declared.moves.Move.{Move}
 use Rattle.motion.specs.Figures.{block_of}

@@ -1,5 +1,5 @@
 -- What a plan tells of a range: the box of its targets and the sum of its lengths.
-use Rattle.std.proofs.Common.{◌≡◌, ℕ, zero, suc, ◌-◌, ◌<◌, ◌≤◌, List, [], ◌∷◌, map, length, take, drop, ℤ, Ok, sym, refl, ap, ◌∙◌, subst, arith}
+use Rattle.std.proofs.Common.{◌≡◌, ℕ, zero, suc, ◌-◌, ◌<◌, ◌≤◌, List, [], ◌∷◌, map, length, take, drop, ℤ, Ok, sym, ap, ◌∙◌, subst, arith}
 use Rattle.std.specs.List.{between}
 use Rattle.std.proofs.lemmas.List.Edits.{between_none, length-between}
 use Rattle.std.proofs.lemmas.Int.{ints}
@@ -7,7 +7,7 @@ use Rattle.kinds.specs.Rules.{summary}
 use Rattle.sequences.proofs.Rulings.{range_there, range_nowhere}
 use Rattle.motion.specs.declared.blocks.Block.{Block}
 use Rattle.motion.specs.Boxes.{Box, Fit}
-use Rattle.motion.specs.Extents.{reach_rule, span_rule, signed32}
+use Rattle.motion.specs.Extents.{reach_rule, signed32}
 use Rattle.motion.specs.Figures.{block_of}
 use Rattle.motion.specs.Laid.{Entry, laid}
 use Rattle.motion.specs.Ranges.{Within}

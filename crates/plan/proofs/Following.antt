@@ -1,5 +1,5 @@
 -- How a call follows the model: where it is refused, accepted or a question.
-use Rattle.std.proofs.Common.{◌≡◌, ℕ, List, Ok, Err, Result, sym, ap, ◌∙◌, subst}
+use Rattle.std.proofs.Common.{◌≡◌, ℕ, List, Ok, Err, Result, sym, ◌∙◌, subst}
 use Rattle.refusals.specs.declared.Refusal.{Refusal}
 use Rattle.motion.specs.declared.blocks.Block.{Block}
 use Rattle.plan.specs.declared.Plan.{Plan}

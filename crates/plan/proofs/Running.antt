@@ -57,7 +57,7 @@ module _ {S : Type 0} (list : S → List Block) (room : S → ℕ) (told : S →
     along_keeps = subst (λ cs. Keeps list room told (left_by after b cs) p) (take_all i calls past) so.keeps
 
     pub along_answers : so_far ≡ answers b calls
-    along_answers = runs.answered-all after answer calls b so.running past tt
+    along_answers = runs.answered_all after answer calls b so.running past tt
 
     pub along_right : AllRight b calls so_far
     along_right = subst (λ cs. AllRight b cs so_far) (take_all i calls past) so.right

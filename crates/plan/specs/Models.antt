@@ -1,6 +1,6 @@
 -- The reference model of a plan: a start, a room and a list of moves, each with its override, and nothing derived.
 -- It is fed each call with its arguments. The blocks, where each begins and their figures follow from it.
-use Rattle.std.specs.Prelude.{ℕ, ◌≤◌, Bool, cond, ◌&&◌, List, [], ◌∷◌, ◌++◌, map, length, take, drop, ℤ, pos, Some, None, Ok, Err, Option, Result, nat_le, nat_lt, slice_set}
+use Rattle.std.specs.Prelude.{ℕ, Bool, cond, ◌&&◌, List, [], ◌∷◌, ◌++◌, map, length, take, drop, ℤ, pos, Some, None, Ok, Err, Option, Result, nat_le, nat_lt, slice_set}
 use Rattle.std.specs.List.{insert, remove, between}
 use Rattle.refusals.specs.declared.Layer.TheVariants.{Plan}
 use Rattle.refusals.specs.declared.Refusal.{Refusal}

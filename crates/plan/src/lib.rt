@@ -1,5 +1,6 @@
 // The plan: moves along the ice over any sequence of blocks, and the speeds at their junctions.
 #![tactic(auto)]
+
 ghost use Rattle.std.specs.Prelude.{◌≡◌, []};
 ghost use Rattle.plan.specs.Keeping.{Keeps};
 ghost use Rattle.plan.specs.Models.{opened};

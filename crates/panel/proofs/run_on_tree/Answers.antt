@@ -13,6 +13,6 @@ returns c =
     let left : ℕ → Told → Type 0 = λ room t. Standing (blocks_of (after_all (opened room) calls)) t.depth in
     record {
       whole = search rules;
-      stands = subst (λ room. IfOk c.run-deep.result (left room)) (ap (λ rows. min (length rows) 4096) c.open-blocks.ensures.rows)
-          (IfOk-weaker c.run-deep.result _ _ (λ t s. standing_from _ _ _ _ _ _ _ s.1 s.2 s.3 s.4) c.run-deep.ensures.stands);
+      stands = subst (λ room. IfOk c.run_deep.result (left room)) (ap (λ rows. min (length rows) 4096) c.open-blocks.ensures.rows)
+          (IfOk-weaker c.run_deep.result _ _ (λ t s. standing_from _ _ _ _ _ _ _ s.1 s.2 s.3 s.4) c.run_deep.ensures.stands);
     }

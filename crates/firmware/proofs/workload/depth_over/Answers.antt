@@ -11,8 +11,8 @@ returns g c =
     let s = g.S.Sequence in
     let b = opened (s.room c.args.blocks) in
     let k = c.open-plan.ensures.model c.requires.told in
-    let end = (c.digest-calls.ensures b k).keeps in
-    let many = as_many s.list s.room s.told (after_all b (work_calls c.args.work)) c.digest-calls.new.plan end in
+    let end = (c.digest_calls.ensures b k).keeps in
+    let many = as_many s.list s.room s.told (after_all b (work_calls c.args.work)) c.digest_calls.new.plan end in
     let deep = c.depth.ensures in
     record {
       least = subst (λ n. fewest c.depth.result ≤ n) many deep.least;

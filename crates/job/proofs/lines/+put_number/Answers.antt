@@ -15,16 +15,16 @@ returns-then-n-lt10 t c =
     }
 
 pub bounds-line-end : goal.bounds-line-end
-bounds-line-end t c = omega (arith, number_end c.args.at _ c.args.n (omega arith) (omega arith) c.put-number-end.ensures.value)
+bounds-line-end t c = omega (arith, number_end c.args.at _ c.args.n (omega arith) (omega arith) c.put_number-end.ensures.value)
 
-pub overflow-add-result-2 : goal.overflow-add-result-2
-overflow-add-result-2 t c = omega (arith, number_end c.args.at _ c.args.n (omega arith) (omega arith) c.put-number-end.ensures.value)
+pub overflow_add-result-2 : goal.overflow_add-result-2
+overflow_add-result-2 t c = omega (arith, number_end c.args.at _ c.args.n (omega arith) (omega arith) c.put_number-end.ensures.value)
 
 pub returns : goal.returns
 returns t c =
-    let s = number_end c.args.at _ c.args.n (omega arith) (omega arith) c.put-number-end.ensures.value in
+    let s = number_end c.args.at _ c.args.n (omega arith) (omega arith) c.put_number-end.ensures.value in
     record {
       bound = omega arith;
       value = s.0;
-      after = number_on c.args.line.now _ c.args.at _ c.args.n (omega arith) (omega arith) (omega arith) c.put-number-end.ensures.value c.put-number-end.ensures.after;
+      after = number_on c.args.line.now _ c.args.at _ c.args.n (omega arith) (omega arith) (omega arith) c.put_number-end.ensures.value c.put_number-end.ensures.after;
     }

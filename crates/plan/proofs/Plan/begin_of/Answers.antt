@@ -4,12 +4,12 @@ use Rattle.plan.proofs.Begins.{begins_after, begins_nowhere}
 use Rattle.plan.proofs.Exits.{passed_up}
 use Rattle.plan.proofs.Plan.begin_of.Goals as goal
 
-pub returns-in-err-before : goal.returns-in-err-before
-returns-in-err-before g c =
+pub returns-in_err-before : goal.returns-in_err-before
+returns-in_err-before g c =
     let s = c.args.self.now in
-    let told = sym c.element_at.ensures.value ∙ c.in-err-before.was in
+    let told = sym c.element_at.ensures.value ∙ c.in_err-before.was in
     record {
-      value = passed_up c.from-residual.result _ c.from-residual.ensures.1 ∙ begins_nowhere (start_of s) (g.S.Sequence.list s.blocks) c.args.i _ (omega (arith, c.if-i-eq0.false)) told;
+      value = passed_up c.from_residual.result _ c.from_residual.ensures.1 ∙ begins_nowhere (start_of s) (g.S.Sequence.list s.blocks) c.args.i _ (omega (arith, c.if-i-eq0.false)) told;
       same = ap (λ z. record { start_x = s.start_x; start_y = s.start_y; start_z = s.start_z; blocks = z }) c.element_at.ensures.same;
     }
 

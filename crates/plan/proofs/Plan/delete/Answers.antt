@@ -1,4 +1,4 @@
-use Rattle.std.proofs.Common.{◌≡◌, Ok, Err, sym, refl, ap, ◌∙◌, arith}
+use Rattle.std.proofs.Common.{Ok, Err, sym, refl, ap, ◌∙◌, arith}
 use Rattle.std.specs.List.{remove}
 use Rattle.sequences.specs.Lists.{delete_list}
 use Rattle.sequences.proofs.Rulings.{not_both, place_none}
@@ -10,38 +10,38 @@ use Rattle.plan.proofs.Exits.{passed_up}
 use Rattle.plan.proofs.Following.{follows_refused, follows_accepted, follows_from}
 use Rattle.plan.proofs.Plan.delete.Goals as goal
 
-pub returns-in-err-begin : goal.returns-in-err-begin
-returns-in-err-begin g c =
+pub returns-in_err-begin : goal.returns-in_err-begin
+returns-in_err-begin g c =
     let s = g.S.Sequence in
     let p = c.args.self.now in
     let i = c.args.i in
-    let why = c.in-err-begin.field-0.0 in
-    let r = c.from-residual.result in
+    let why = c.in_err-begin.field-0.0 in
+    let r = c.from_residual.result in
     let answer = λ (b : Model). delete_told b i in
     let altered = λ (b : Model). with_entries b (remove b.entries i) in
-    let past = begins_past (start_of p) (s.list p.blocks) i why (sym c.begin_of.ensures.value ∙ c.in-err-begin.was) in
+    let past = begins_past (start_of p) (s.list p.blocks) i why (sym c.begin_of.ensures.value ∙ c.in_err-begin.was) in
     record {
       model = follows_refused s.list s.room s.told answer altered p c.begin_of.new.self r why
-          (passed_up r why c.from-residual.ensures.1) c.begin_of.ensures.same
+          (passed_up r why c.from_residual.ensures.1) c.begin_of.ensures.same
           (λ b k. place_answered s.list s.room s.told b p k i ∙ place_none (s.list p.blocks) i (omega (arith, past.0)) ∙ ap Err (sym past.1));
       refused = λ _ _. c.begin_of.ensures.same;
     }
 
-pub returns-in-err-delete : goal.returns-in-err-delete
-returns-in-err-delete g c =
+pub returns-in_err-delete : goal.returns-in_err-delete
+returns-in_err-delete g c =
     let s = g.S.Sequence in
     let p = c.args.self.now in
     let i = c.args.i in
     let here = c.begin_of.new.self in
-    let why = c.in-err-delete.field-0.0 in
-    let r = c.from-residual-in-err-delete.result in
+    let why = c.in_err-delete.field-0.0 in
+    let r = c.from_residual-in_err-delete.result in
     let answer = λ (b : Model). delete_told b i in
     let altered = λ (b : Model). with_entries b (remove b.entries i) in
-    let same = ap (λ z. record { start_x = here.start_x; start_y = here.start_y; start_z = here.start_z; blocks = z }) (c.delete.ensures.refused why c.in-err-delete.was) in
+    let same = ap (λ z. record { start_x = here.start_x; start_y = here.start_y; start_z = here.start_z; blocks = z }) (c.delete.ensures.refused why c.in_err-delete.was) in
     record {
       model = follows_from s.list s.room s.told answer _ p here _ r c.begin_of.ensures.same
-          (follows_refused s.list s.room s.told answer altered here _ r why (passed_up r why c.from-residual-in-err-delete.ensures.1) same
-          (λ b k. place_answered s.list s.room s.told b here k i ∙ sym c.delete.ensures.value ∙ c.in-err-delete.was));
+          (follows_refused s.list s.room s.told answer altered here _ r why (passed_up r why c.from_residual-in_err-delete.ensures.1) same
+          (λ b k. place_answered s.list s.room s.told b here k i ∙ sym c.delete.ensures.value ∙ c.in_err-delete.was));
       refused = λ _ _. same ∙ c.begin_of.ensures.same;
     }
 

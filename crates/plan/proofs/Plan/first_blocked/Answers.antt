@@ -1,7 +1,7 @@
-use Rattle.std.proofs.Common.{◌≡◌, ℕ, ◌+◌, ◌-◌, ◌/◌, ◌<◌, ◌≤◌, length, sym, refl, ap, ◌∙◌, subst, ⊎_elim, arith}
+use Rattle.std.proofs.Common.{◌≡◌, ℕ, ◌+◌, ◌-◌, ◌/◌, ◌<◌, ◌≤◌, length, refl, ap, ◌∙◌, subst, ⊎_elim, arith}
 use Rattle.std.proofs.lemmas.Bool.{cases_lt}
 use Rattle.motion.specs.ByParts.{run_down_to}
-use Rattle.motion.specs.Profiles.{Starts, FirstBlocked, first_blocked}
+use Rattle.motion.specs.Profiles.{first_blocked}
 use Rattle.motion.proofs.Blocking.{first_blocked_first}
 use Rattle.motion.proofs.Parting.{blocked_by_parts}
 use Rattle.plan.proofs.Plan.first_blocked.Goals as goal
@@ -15,8 +15,8 @@ not_lt {m} {n} never = ⊎_elim (λ lt. absurd (never lt)) (λ le. le) (cases_lt
 below_high : (low high : ℕ) → low < high → middle low high < high
 below_high low high wide = omega arith
 
-pub greatest-start-requires : goal.greatest-start-requires
-greatest-start-requires g c =
+pub greatest_start-requires : goal.greatest_start-requires
+greatest_start-requires g c =
     let inv = c.loop-low.invariant in
     let down = below_high c.loop-low.low c.loop-low.high c.loop-low-test.true in
     let long : length (g.S.Sequence.list c.loop-low.self.blocks) ≡ length (g.S.Sequence.list c.args.self.now.blocks) = ap (λ z. length (g.S.Sequence.list z.blocks)) inv.0 in
@@ -25,7 +25,7 @@ greatest-start-requires g c =
 pub loop-low-init : goal.loop-low-init
 loop-low-init g c =
     let xs = g.S.Sequence.list c.args.self.now.blocks in
-    (refl, omega arith, omega arith, λ told none. (omega arith, omega (arith, (first-blocked xs c.args.s none).within, c.requires)))
+    (refl, omega arith, omega arith, λ told none. (omega arith, omega (arith, (first_blocked_first xs c.args.s none).within, c.requires)))
 
 pub loop-low-preserved : goal.loop-low-preserved
 loop-low-preserved g c =
@@ -44,8 +44,8 @@ loop-low-preserved g c =
           ((inv.3 told none).0, past),
     )
 
-pub loop-low-preserved-then-s-greatest-start : goal.loop-low-preserved-then-s-greatest-start
-loop-low-preserved-then-s-greatest-start g c =
+pub loop-low-preserved-then-s-greatest_start : goal.loop-low-preserved-then-s-greatest_start
+loop-low-preserved-then-s-greatest_start g c =
     let s = g.S.Sequence in
     let inv = c.loop-low.invariant in
     let low = c.loop-low.low in

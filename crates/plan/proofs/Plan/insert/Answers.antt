@@ -1,10 +1,9 @@
-use Rattle.std.proofs.Common.{◌≡◌, suc, Ok, Err, sym, refl, ap, ◌∙◌}
+use Rattle.std.proofs.Common.{suc, Ok, Err, sym, refl, ap, ◌∙◌}
 use Rattle.std.specs.List.{insert}
 use Rattle.sequences.specs.Lists.{insert_answer, insert_list}
 use Rattle.sequences.proofs.Rulings.{not_both, insert_past}
 use Rattle.motion.specs.Figures.{block_of}
 use Rattle.motion.specs.Laid.{begun_again}
-use Rattle.motion.specs.Ranges.{check_move}
 use Rattle.plan.specs.Keeping.{start_of, begin_answer}
 use Rattle.plan.specs.Models.{Model, checked, with_entries, at_full, insert_told}
 use Rattle.plan.proofs.Editing.{begins_past, begins_at, insert_answered, insert_longer, inserted_keeps}
@@ -12,58 +11,58 @@ use Rattle.plan.proofs.Exits.{passed_up}
 use Rattle.plan.proofs.Following.{follows_refused, follows_accepted, follows_from}
 use Rattle.plan.proofs.Plan.insert.Goals as goal
 
-pub begin-next-requires : goal.begin-next-requires
-begin-next-requires g c =
+pub begin_next-requires : goal.begin_next-requires
+begin_next-requires g c =
     insert_longer _ _ _ c.args.i _ (sym c.insert.ensures.value ∙ c.in_ok-insert.was) c.insert.ensures.after
 
-pub returns-in-err-check : goal.returns-in-err-check
-returns-in-err-check g c =
+pub returns-in_err-check : goal.returns-in_err-check
+returns-in_err-check g c =
     let s = g.S.Sequence in
     let p = c.args.self.now in
-    let why = c.in-err-check.field-0.0 in
+    let why = c.in_err-check.field-0.0 in
     let answer = λ (b : Model). insert_told b c.args.i c.args.m in
     let altered = λ (b : Model). with_entries b (insert b.entries c.args.i (at_full c.args.m)) in
     record {
-      model = follows_refused s.list s.room s.told answer altered p p c.from-residual.result why
-          (passed_up c.from-residual.result why c.from-residual.ensures.1) refl
-          (λ b k. ap (λ z. checked z (insert_answer b.entries b.room c.args.i)) (sym c.check.ensures.value ∙ c.in-err-check.was));
+      model = follows_refused s.list s.room s.told answer altered p p c.from_residual.result why
+          (passed_up c.from_residual.result why c.from_residual.ensures.1) refl
+          (λ b k. ap (λ z. checked z (insert_answer b.entries b.room c.args.i)) (sym c.check.ensures.value ∙ c.in_err-check.was));
       refused = λ _ _. refl;
     }
 
-pub returns-in-err-begin : goal.returns-in-err-begin
-returns-in-err-begin g c =
+pub returns-in_err-begin : goal.returns-in_err-begin
+returns-in_err-begin g c =
     let s = g.S.Sequence in
     let p = c.args.self.now in
     let i = c.args.i in
-    let why = c.in-err-begin.field-0.0 in
-    let r = c.from-residual-in-err-begin.result in
+    let why = c.in_err-begin.field-0.0 in
+    let r = c.from_residual-in_err-begin.result in
     let answer = λ (b : Model). insert_told b i c.args.m in
     let altered = λ (b : Model). with_entries b (insert b.entries i (at_full c.args.m)) in
-    let past = begins_past (start_of p) (s.list p.blocks) i why (sym c.begin_of.ensures.value ∙ c.in-err-begin.was) in
+    let past = begins_past (start_of p) (s.list p.blocks) i why (sym c.begin_of.ensures.value ∙ c.in_err-begin.was) in
     record {
       model = follows_refused s.list s.room s.told answer altered p c.begin_of.new.self r why
-          (passed_up r why c.from-residual-in-err-begin.ensures.1) c.begin_of.ensures.same
+          (passed_up r why c.from_residual-in_err-begin.ensures.1) c.begin_of.ensures.same
           (λ b k. ap (λ z. checked z (insert_answer b.entries b.room i)) (sym c.check.ensures.value ∙ c.in_ok-check.was)
           ∙ insert_answered s.list s.room s.told b p k i ∙ insert_past (s.list p.blocks) _ i past.0 ∙ ap Err (sym past.1));
       refused = λ _ _. c.begin_of.ensures.same;
     }
 
-pub returns-in-err-insert : goal.returns-in-err-insert
-returns-in-err-insert g c =
+pub returns-in_err-insert : goal.returns-in_err-insert
+returns-in_err-insert g c =
     let s = g.S.Sequence in
     let p = c.args.self.now in
     let i = c.args.i in
     let here = c.begin_of.new.self in
-    let why = c.in-err-insert.field-0.0 in
-    let r = c.from-residual-in-err-insert.result in
+    let why = c.in_err-insert.field-0.0 in
+    let r = c.from_residual-in_err-insert.result in
     let answer = λ (b : Model). insert_told b i c.args.m in
     let altered = λ (b : Model). with_entries b (insert b.entries i (at_full c.args.m)) in
-    let same = ap (λ z. record { start_x = here.start_x; start_y = here.start_y; start_z = here.start_z; blocks = z }) (c.insert.ensures.refused why c.in-err-insert.was) in
+    let same = ap (λ z. record { start_x = here.start_x; start_y = here.start_y; start_z = here.start_z; blocks = z }) (c.insert.ensures.refused why c.in_err-insert.was) in
     record {
       model = follows_from s.list s.room s.told answer _ p here _ r c.begin_of.ensures.same
-          (follows_refused s.list s.room s.told answer altered here _ r why (passed_up r why c.from-residual-in-err-insert.ensures.1) same
+          (follows_refused s.list s.room s.told answer altered here _ r why (passed_up r why c.from_residual-in_err-insert.ensures.1) same
           (λ b k. ap (λ z. checked z (insert_answer b.entries b.room i)) (sym c.check.ensures.value ∙ c.in_ok-check.was)
-          ∙ insert_answered s.list s.room s.told b here k i ∙ sym c.insert.ensures.value ∙ c.in-err-insert.was));
+          ∙ insert_answered s.list s.room s.told b here k i ∙ sym c.insert.ensures.value ∙ c.in_err-insert.was));
       refused = λ _ _. same ∙ c.begin_of.ensures.same;
     }
 

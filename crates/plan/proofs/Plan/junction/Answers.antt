@@ -1,9 +1,8 @@
-use Rattle.std.proofs.Common.{◌≡◌, ℕ, ◌<◌, ◌≤◌, min, List, length, take, drop, Ok, Err, sym, refl, ap, ◌∙◌, subst, arith}
+use Rattle.std.proofs.Common.{◌≡◌, ◌<◌, ◌≤◌, min, length, take, drop, Ok, Err, sym, refl, ap, ◌∙◌, subst, arith}
 use Rattle.std.specs.List.{between}
 use Rattle.std.proofs.lemmas.Slice.{between_is, between_to_end}
 use Rattle.refusals.specs.declared.Refusal.TheVariants.{Blocked, Speed}
 use Rattle.kinds.specs.Rules.{summary}
-use Rattle.motion.specs.declared.blocks.Block.{Block}
 use Rattle.motion.specs.Profiles.{Starts, first_blocked}
 use Rattle.motion.specs.Runs.{through, run_up_rule, run_down_rule}
 use Rattle.motion.proofs.Parting.{none_starts}
@@ -14,8 +13,8 @@ use Rattle.plan.proofs.Following.{follows_question}
 use Rattle.plan.proofs.Junctions.{driven_told, blocked_told, told_fast, told_far, told_near, junction_right}
 use Rattle.plan.proofs.Plan.junction.Goals as goal
 
-pub returns-then-s-gt-MOST-START : goal.returns-then-s-gt-MOST-START
-returns-then-s-gt-MOST-START g c =
+pub returns-then-s-gt-MOST_START : goal.returns-then-s-gt-MOST_START
+returns-then-s-gt-MOST_START g c =
     let s = g.S.Sequence in
     let p = c.args.self.now in
     let j = c.args.j in

@@ -1,6 +1,5 @@
 use Rattle.std.proofs.Common.{get_or, set, sym, refl, ap, ◌∙◌, subst}
 use Rattle.std.proofs.lemmas.List.{set_past}
-use Rattle.sequences.specs.Lists.{replace_list}
 use Rattle.sequences.proofs.Rulings.{element_found, element_missing, replaced_set}
 use Rattle.motion.specs.Figures.{at_percent}
 use Rattle.motion.specs.Laid.{idle}
@@ -22,12 +21,12 @@ returns-in-Ok g c =
       start = refl;
     }
 
-pub returns-in-default : goal.returns-in-default
-returns-in-default g c =
+pub returns-in_default : goal.returns-in_default
+returns-in_default g c =
     let s = g.S.Sequence in
     let xs = s.list c.args.self.now.blocks in
     let i = c.args.i in
-    let none = element_missing xs i c.in-default.field-0 (sym c.element_at.ensures.value ∙ c.in-default.is) in
+    let none = element_missing xs i c.in_default.field-0 (sym c.element_at.ensures.value ∙ c.in_default.is) in
     let asked = c.element_at.ensures.same in
     record {
       after = ap s.list asked ∙ sym (set_past xs i (at_percent (get_or xs i idle) c.args.percent) none.0);

@@ -1,9 +1,6 @@
-use Rattle.std.proofs.Common.{◌≡◌, refl, ap, ◌∙◌, arith, rules}
+use Rattle.std.proofs.Common.{arith, rules}
 use Rattle.plan.proofs.Running.{along_start, along_more, along_keeps, along_answers, along_right}
 use Rattle.plan.proofs.Plan.run.Goals as goal
-
-pub push-reserved-requires : goal.push-reserved-requires
-push-reserved-requires g c = omega (arith, c.loop-call.invariant.0, c.loop-call.invariant.1)
 
 pub loop-call-init : goal.loop-call-init
 loop-call-init g c =

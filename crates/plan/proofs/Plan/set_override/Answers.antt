@@ -1,8 +1,8 @@
-use Rattle.std.proofs.Common.{◌≡◌, true, false, cond, ◌&&◌, leb, Ok, Err, sym, refl, ap, ◌∙◌, subst, ⊎_elim, arith}
+use Rattle.std.proofs.Common.{◌≡◌, true, false, cond, leb, Ok, Err, sym, refl, ap, ◌∙◌, ⊎_elim}
 use Rattle.std.proofs.lemmas.Bool.{le-leb, lt-leb, and_from, and_left, and_right}
 use Rattle.refusals.specs.declared.Refusal.TheVariants.{Override}
 use Rattle.sequences.specs.Lists.{ranged}
-use Rattle.sequences.proofs.Rulings.{not_both, range_accepted, range_refused, range_there}
+use Rattle.sequences.proofs.Rulings.{not_both, range_accepted}
 use Rattle.motion.specs.Laid.{overridden}
 use Rattle.plan.specs.Models.{Model, no_range, percent_fits, with_entries, changed_in, override_told}
 use Rattle.plan.proofs.Asking.{ranged_kept}
@@ -11,8 +11,8 @@ use Rattle.plan.proofs.Following.{follows_refused, follows_accepted, follows_fro
 use Rattle.plan.proofs.Overriding.{overridden_keeps}
 use Rattle.plan.proofs.Plan.set_override.Goals as goal
 
-pub returns-then-percent-lt-LEAST-PERCENT : goal.returns-then-percent-lt-LEAST-PERCENT
-returns-then-percent-lt-LEAST-PERCENT g c =
+pub returns-then-percent-lt-LEAST_PERCENT : goal.returns-then-percent-lt-LEAST_PERCENT
+returns-then-percent-lt-LEAST_PERCENT g c =
     let s = g.S.Sequence in
     let p = c.args.self.now in
     let i = c.args.i in
@@ -21,28 +21,28 @@ returns-then-percent-lt-LEAST-PERCENT g c =
     let unfit : percent_fits percent ≡ false = ⊎_elim
     (λ low. and_left (leb 10 percent) (leb percent 200) (lt-leb 10 percent low))
     (λ high. and_right (leb 10 percent) (leb percent 200) (lt-leb percent 200 high.1))
-    c.then-percent-lt-LEAST-PERCENT.either in
+    c.then-percent-lt-LEAST_PERCENT.either in
     record {
       model = follows_refused s.list s.room s.told (λ (b : Model). override_told b i j percent) (λ (b : Model). with_entries b (changed_in (λ e. overridden e percent) b.entries i j)) p p (Err Override) Override refl refl
           (λ b k. ap (λ t. cond t (ranged no_range b.entries i j tt) (Err Override)) unfit);
       refused = λ _ _. refl;
     }
 
-pub returns-in-err-check-range : goal.returns-in-err-check-range
-returns-in-err-check-range g c =
+pub returns-in_err-check_range : goal.returns-in_err-check_range
+returns-in_err-check_range g c =
     let s = g.S.Sequence in
     let p = c.args.self.now in
     let i = c.args.i in
     let j = c.args.j in
     let percent = c.args.percent in
-    let r = c.from-residual.result in
-    let why = c.in-err-check-range.field-0.0 in
+    let r = c.from_residual.result in
+    let why = c.in_err-check_range.field-0.0 in
     let fit : percent_fits percent ≡ true = and_from (leb 10 percent) (leb percent 200) (le-leb 10 percent c.if-percent-lt-LEAST_PERCENT.false) (le-leb percent 200 c.if-percent-gt-MOST_PERCENT.false) in
     record {
       model = follows_refused s.list s.room s.told (λ (b : Model). override_told b i j percent) (λ (b : Model). with_entries b (changed_in (λ e. overridden e percent) b.entries i j)) p _ r why
-          (passed_up r why c.from-residual.ensures.1) c.check_range.ensures.same
+          (passed_up r why c.from_residual.ensures.1) c.check_range.ensures.same
           (λ b k. ap (λ t. cond t (ranged no_range b.entries i j tt) (Err Override)) fit
-          ∙ sym (ranged_kept s.list s.room s.told b p k i j tt) ∙ sym c.check_range.ensures.value ∙ c.in-err-check-range.was);
+          ∙ sym (ranged_kept s.list s.room s.told b p k i j tt) ∙ sym c.check_range.ensures.value ∙ c.in_err-check_range.was);
       refused = λ _ _. c.check_range.ensures.same;
     }
 

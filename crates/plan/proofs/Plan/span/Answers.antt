@@ -1,4 +1,4 @@
-use Rattle.std.proofs.Common.{◌≡◌, Ok, sym, refl, ap, ◌∙◌, subst}
+use Rattle.std.proofs.Common.{Ok, sym, ap, ◌∙◌, subst}
 use Rattle.std.specs.List.{between}
 use Rattle.kinds.specs.Rules.{summary}
 use Rattle.motion.specs.Extents.{span_rule}
@@ -12,17 +12,17 @@ use Rattle.plan.proofs.Extents.{span_right}
 use Rattle.plan.proofs.Following.{follows_question}
 use Rattle.plan.proofs.Plan.span.Goals as goal
 
-pub returns-in-err-check-range : goal.returns-in-err-check-range
-returns-in-err-check-range g c =
+pub returns-in_err-check_range : goal.returns-in_err-check_range
+returns-in_err-check_range g c =
     let s = g.S.Sequence in
     let p = c.args.self.now in
     let i = c.args.i in
     let j = c.args.j in
-    let r = c.from-residual.result in
-    let why = c.in-err-check-range.field-0.0 in
+    let r = c.from_residual.result in
+    let why = c.in_err-check_range.field-0.0 in
     let tells = λ (b : Model) (k : Keeps s.list s.room s.told b p).
-    passed_up r why c.from-residual.ensures.1
-    ∙ sym (range_refused no_range (s.list p.blocks) i j (summary span_rule (between i j (blocks_of b))) why (sym c.check_range.ensures.value ∙ c.in-err-check-range.was))
+    passed_up r why c.from_residual.ensures.1
+    ∙ sym (range_refused no_range (s.list p.blocks) i j (summary span_rule (between i j (blocks_of b))) why (sym c.check_range.ensures.value ∙ c.in_err-check_range.was))
     ∙ ranged_kept s.list s.room s.told b p k i j _ in
     record {
       model = follows_question s.list s.room s.told (λ (b : Model). span_told b i j) p _ r c.check_range.ensures.same tells;
