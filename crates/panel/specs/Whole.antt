@@ -1,5 +1,5 @@
 -- The promise over a whole run of calls from the opening of a plan over a tree.
-use Rattle.std.specs.Prelude.{◌≡◌, ℕ, ◌-◌, ◌^◌, ◌≤◌, List, length, vec_items}
+use Rattle.std.specs.Prelude.{◌≡◌, ◌-◌, ◌^◌, ◌≤◌, List, length, vec_items}
 use Rattle.kinds.specs.Balance.{fewest}
 use Rattle.plan.specs.Calls.{answers, after_all, AllRight}
 use Rattle.plan.specs.Models.{Model}

@@ -1,5 +1,6 @@
 // The large panel: a plan over a balanced tree of rows that the caller lends, from its opening.
 #![tactic(auto)]
+
 ghost use Rattle.std.specs.Prelude.{◌≡◌, ◌-◌, ◌^◌, ◌≤◌, min, [], length, IfOk};
 ghost use Rattle.panel.specs.Standing.{Standing};
 ghost use Rattle.panel.specs.Whole.{Whole};

@@ -1,4 +1,4 @@
-use Rattle.std.proofs.Common.{◌≡◌, ◌-◌, ◌^◌, ◌≤◌, true, length, is_ok, vec_items, sym, ap, subst}
+use Rattle.std.proofs.Common.{◌≡◌, ◌-◌, ◌^◌, ◌≤◌, is_ok, vec_items, sym, ap, subst}
 use Rattle.std.proofs.lemmas.Result.{IfOk-at_ok}
 use Rattle.kinds.specs.Balance.{fewest}
 use Rattle.plan.specs.Calls.{answers, after_all, AllRight}
@@ -11,7 +11,7 @@ returns g c =
     let s = g.S.Sequence in
     let b = opened (s.room c.args.blocks) in
     let calls = c.args.calls.now in
-    let k = c.open-plan.ensures c.requires.told in
+    let k = c.open-plan.ensures.model c.requires.told in
     let was = c.in_ok-answers.was in
     let ran = c.run.ensures in
     let end = ran.after (ap is_ok was) b k in

@@ -1,4 +1,4 @@
-use Rattle.std.proofs.Common.{◌≡◌, ℕ, min, length, IfOk, ap, subst, rules}
+use Rattle.std.proofs.Common.{ℕ, min, length, IfOk, ap, subst, rules}
 use Rattle.std.proofs.lemmas.Result.{IfOk-weaker}
 use Rattle.plan.specs.Calls.{after_all}
 use Rattle.plan.specs.Models.{opened, blocks_of}

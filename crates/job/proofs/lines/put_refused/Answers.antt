@@ -6,9 +6,9 @@ use Rattle.job.proofs.lines.put_refused.Goals as goal
 
 pub returns : goal.returns
 returns c =
-    let h0 = holds_first c.args.line.now (codes "refused ") _ _ c.put_number.ensures.after c.put_number.ensures.value in
+    let h0 = holds_first c.args.line.now (codes "refused ") _ _ c.put-number.ensures.after c.put-number.ensures.value in
     let h1 = holds_more _ _ _ _ _ _ _ h0 c.put_number-space.ensures.after c.put_number-space.ensures.value in
-    let h2 = holds_more _ _ (codes " ") _ _ _ _ h1 c.put_layer.ensures.after c.put_layer.ensures.value in
+    let h2 = holds_more _ _ (codes " ") _ _ _ _ h1 c.put-layer.ensures.after c.put-layer.ensures.value in
     let h3 = holds_more _ _ _ _ _ _ _ h2 c.put_layer-gap.ensures.after c.put_layer-gap.ensures.value in
     let h4 = holds_more _ _ (codes " ") _ _ _ _ h3 c.put-place.ensures.after c.put-place.ensures.value in
     let h5 = holds_more _ _ _ _ _ _ _ h4 c.put_number-named.ensures.after c.put_number-named.ensures.value in

@@ -22,7 +22,7 @@ returns-in-End c =
 pub returns-in_err-found : goal.returns-in_err-found
 returns-in_err-found c =
     let bs = c.args.job.now in
-    let r = c.from-residual.result in
+    let r = c.from_residual.result in
     let value : r ≡ verdict_of bs = search rules in
     let judged : Judged bs r = search rules in
     record { value = value; judged = judged; encoded = encoding bs r (λ i. (c.type_inv.job i).fits) value judged }
