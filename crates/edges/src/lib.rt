@@ -1,5 +1,6 @@
 // Edge cases of sequences and surveys as tests: empty, full, first, last, one past, and the greatest place.
 #![tactic(auto)]
+
 #[cfg(test)]
 mod tests {
     use kinds::{Both, Pair, Thinnest, Total, fold, saturating_sum};

@@ -1,5 +1,5 @@
 -- A whole job on a plan, field by field: what was written and what is left come to what the model says.
-use Rattle.std.proofs.Common.{◌≡◌, ℕ, zero, suc, ◌+◌, ◌≤◌, List, [], ◌∷◌, ◌++◌, map, length, take, drop, Some, None, Ok, Err, Result, sym, refl, ap, ◌∙◌, subst, append_assoc, arith}
+use Rattle.std.proofs.Common.{◌≡◌, ℕ, zero, suc, ◌+◌, ◌≤◌, List, [], ◌∷◌, ◌++◌, length, take, drop, Some, Ok, Err, Result, sym, refl, ap, ◌∙◌, subst, append_assoc, arith}
 use Rattle.std.proofs.lemmas.List.{append-nil, take_all, take-append-le, drop_at}
 use Rattle.refusals.specs.declared.Refusal.{Refusal}
 use Rattle.refusals.specs.declared.Refusal.TheVariants.{Buffer}
@@ -12,7 +12,7 @@ use Rattle.plan.specs.declared.calls.Call as call
 use Rattle.job.specs.Fields.{offset_of}
 use Rattle.job.specs.Lines.{answer_line, over}
 use Rattle.job.specs.Outputs.{Placed, placed, field_calls, found_calls, calls_from, placed_calls, lines_of, model_after}
-use Rattle.job.specs.Steps.{refusal_of, step_refusal, found_place, step_place, field_line, found_line, field_told, found_told, step_told, Bounded, Unmoved, Stepped}
+use Rattle.job.specs.Steps.{refusal_of, step_refusal, found_place, step_place, field_line, found_line, field_told, found_told, Bounded, Unmoved, Stepped}
 use Rattle.job.specs.Verdicts.{checked_at, field_verdict, found_verdict, verdict_from, verdict_of}
 use Rattle.job.specs.declared.fields.Field.{Field}
 use Rattle.job.specs.declared.fields.Field.TheVariants.{Call, End}

@@ -1,5 +1,5 @@
 -- A step by its cases: a short buffer, and a field with a call.
-use Rattle.std.proofs.Common.{◌≡◌, ℕ, ◌<◌, ◌≤◌, cond, ltb, List, [], length, Some, None, Ok, Err, sym, refl, ap, ◌∙◌, subst}
+use Rattle.std.proofs.Common.{◌≡◌, ℕ, ◌<◌, ◌≤◌, cond, ltb, List, [], length, Some, None, Ok, Err, sym, ap, ◌∙◌, subst}
 use Rattle.std.proofs.lemmas.Bool.{lt-ltb, le-ltb}
 use Rattle.refusals.specs.declared.Refusal.TheVariants.{Buffer}
 use Rattle.motion.specs.declared.blocks.Block.{Block}
@@ -13,9 +13,9 @@ use Rattle.job.specs.Fields.{offset_of}
 use Rattle.job.specs.Lines.{answer_line, over}
 use Rattle.job.specs.Steps.{refusal_of, step_refusal, field_place, found_place, step_place, field_model, found_model, step_model, field_line, found_line, step_line, field_told, found_told, step_told, Stepped}
 use Rattle.job.specs.Verdicts.{checked_at}
-use Rattle.job.specs.declared.fields.Field.TheVariants.{Call, End}
+use Rattle.job.specs.declared.fields.Field.TheVariants.{Call}
 use Rattle.job.specs.declared.fields.Found.{Found}
-use Rattle.job.specs.declared.reading.steps.Outcome.TheVariants.{Line, Over}
+use Rattle.job.specs.declared.reading.steps.Outcome.TheVariants.{Line}
 
 pub narrow : {X : Type 0} (space : ℕ) (x y : X) → space < 64 → cond (ltb space 64) x y ≡ x
 narrow space x y h = ap (λ t. cond t x y) (lt-ltb space 64 h)

@@ -1,8 +1,8 @@
 -- What one turn of the verdict keeps.
-use Rattle.std.proofs.Common.{◌≡◌, ℕ, zero, suc, ◌+◌, ◌<◌, ◌≤◌, List, [], ◌∷◌, ◌++◌, length, Ok, sym, refl, ap, ◌∙◌, subst, append_assoc, arith}
+use Rattle.std.proofs.Common.{◌≡◌, ℕ, zero, suc, ◌+◌, ◌≤◌, List, [], ◌∷◌, ◌++◌, length, Ok, sym, refl, ap, ◌∙◌, subst, append_assoc, arith}
 use Rattle.std.proofs.lemmas.List.{append-nil}
 use Rattle.plan.specs.declared.calls.Call as call
-use Rattle.job.specs.Judgements.{Reads, EndsAt, Judged}
+use Rattle.job.specs.Judgements.{Reads, Judged}
 use Rattle.job.specs.Outputs.{Placed, placed, field_calls, found_calls, calls_from, placed_calls}
 use Rattle.job.specs.Verdicts.{checked_at, field_verdict, found_verdict, verdict_from, verdict_of}
 use Rattle.job.specs.declared.fields.Field.TheVariants.{Call, End}

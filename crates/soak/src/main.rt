@@ -1,5 +1,6 @@
 // Long random runs on a tree and on a flat list at once: every answer must be the same.
 #![tactic(auto)]
+
 ghost use Rattle.std.specs.Prelude.{◌≡◌, []};
 
 mod random;

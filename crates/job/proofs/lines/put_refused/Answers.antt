@@ -1,5 +1,5 @@
 use Rattle.std.proofs.Common.{◌≡◌, ◌++◌, codes, decimal, ap, ◌∙◌, rules}
-use Rattle.refusals.specs.Table.{number_of, layer_of, name_of, named_of}
+use Rattle.refusals.specs.Table.{number_of, name_of, named_of}
 use Rattle.job.specs.Lines.{place_named, named_part}
 use Rattle.job.proofs.Laying.{holds_first, holds_more, holds_as}
 use Rattle.job.proofs.lines.put_refused.Goals as goal

@@ -1,4 +1,4 @@
-use Rattle.std.proofs.Common.{◌≡◌, ◌++◌, take, replicate, ap, ◌∙◌}
+use Rattle.std.proofs.Common.{◌++◌, take, replicate, ap, ◌∙◌}
 use Rattle.job.specs.Lines.{refused_line}
 use Rattle.job.proofs.Goings.{taken}
 use Rattle.job.proofs.running.refused_text.Goals as goal

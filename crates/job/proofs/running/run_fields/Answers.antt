@@ -1,4 +1,4 @@
-use Rattle.std.proofs.Common.{◌≡◌, ℕ, suc, ◌≤◌, ◌++◌, length, Ok, vec_items, sym, refl, ap, ◌∙◌, subst, arith, rules}
+use Rattle.std.proofs.Common.{suc, ◌≤◌, length, Ok, vec_items, sym, refl, ap, ◌∙◌, subst, arith, rules}
 use Rattle.plan.specs.Keeping.{Keeps}
 use Rattle.job.specs.Outputs.{lines_of, placed_calls, model_after}
 use Rattle.job.specs.Steps.{Bounded}

@@ -1,4 +1,4 @@
-use Rattle.std.proofs.Common.{◌≡◌, ◌<◌, ◌≤◌, length, Ok, sym, refl, ap, arith, rules}
+use Rattle.std.proofs.Common.{◌≡◌, ◌<◌, ◌≤◌, length, Ok, sym, refl}
 use Rattle.job.specs.Verdicts.{checked_at}
 use Rattle.job.proofs.Stepping.{narrow, place_call, refusal_call, stepped_short, stepped_call}
 use Rattle.job.proofs.reading.Reader.step.Goals as goal
