@@ -1,9 +1,9 @@
 -- A workload on a plan, by the model: one call more.
-use Rattle.std.proofs.Common.{◌≡◌, ℕ, ◌+◌, ◌≤◌, List, [], ◌∷◌, ◌++◌, length, sym, refl, ap, ◌∙◌, subst, arith}
+use Rattle.std.proofs.Common.{◌≡◌, ℕ, ◌+◌, List, [], ◌∷◌, ◌++◌, length, sym, refl, ap, ◌∙◌, subst, arith}
 use Rattle.std.proofs.lemmas.List.FromFn.{map-range_with_len_more}
 use Rattle.std.proofs.lemmas.List.Sums.{fold_push}
 use Rattle.sequences.specs.Runs.{left_by, answers_by}
-use Rattle.profiles.proofs.Laying.{laid_length}
+use Rattle.motion.proofs.Laying.{laid_length}
 use Rattle.motion.specs.declared.blocks.Block.{Block}
 use Rattle.plan.specs.Calls.{answer, after, answers, after_all}
 use Rattle.plan.specs.Keeping.{Keeps, Follows}

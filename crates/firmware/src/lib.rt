@@ -1,6 +1,7 @@
 // The library behind a few functions on numbers and bytes, for firmware and for tests in other languages. Nothing here
 // allocates, and no call leaves anything behind: a plan lives on the stack of the call that makes it.
 #![tactic(auto)]
+
 ghost use Rattle.std.specs.Prelude.{◌≡◌, length};
 ghost use Rattle.firmware.specs.Digests.{digest_of, DeepAs};
 ghost use Rattle.firmware.specs.Jobs.{verdict_code, Ran};

@@ -1,5 +1,6 @@
 // Runs the job on standard input on a plan over a tree of 256 rows, and prints a line for each of its fields.
 #![tactic(auto)]
+
 ghost use Rattle.std.specs.Prelude.{◌≡◌, ◌≤◌, min, length, IfOk};
 ghost use Rattle.job.specs.Outputs.{job_output};
 ghost use Rattle.plan.specs.Models.{opened};
