@@ -1,7 +1,7 @@
 -- A job and its encoding: what is read is what was written.
 use Rattle.std.proofs.Common.{◌≡◌, ℕ, zero, suc, ◌+◌, ◌-◌, ◌*◌, ◌/◌, ◌%◌, ◌^◌, ◌<◌, ◌≤◌, Bool, true, false, cond, eqb, ltb, List, [], ◌∷◌, ◌++◌, map, length, get_or, take, drop, ℤ, Some, None, Ok, Err, Option, Result, sym, refl, ap, ◌∙◌, subst, append_assoc, arith, length-append, w32, SFits, to_z, of_z}
 use mir.ValLaws.{to_z-Fits}
-use Rattle.std.specs.List.{AllByRecursion as All}
+use Rattle.std.specs.List.{AllByRecursion}
 use Rattle.std.proofs.lemmas.List.{append-nil, append_cancel_right, length-drop, get_or-drop, drop_all, drop_at, drop-drop, drop_more, take_at, take-append-drop}
 use Rattle.std.proofs.lemmas.Int.{of_z-to_z, to_z-of_z}
 use Rattle.std.proofs.lemmas.Bool.{eqb-true, ltb-false, eq-eqb, le-ltb, cond-true, cond-false}
@@ -206,7 +206,7 @@ module _ (bs : List ℕ) (typed : (i : ℕ) → byte_at bs i < 256) where
       let head = refused_else (ltb (length bs - at) 3) (refusal.Cut (offset_of at)) (tagged_at (tag_of (byte_at bs at)) bs at) f e in
       tagged_lies (tag_of (byte_at bs at)) at f refl head.1 (ltb-false (length bs - at) 3 head.0)
 
-  reads_lie : (from to : ℕ) (ps : List Placed) → Reads bs from ps to → (drop from bs ≡ encoded (map (λ p. p.call) ps) ++ drop to bs) × All CallFits (map (λ p. p.call) ps)
+  reads_lie : (from to : ℕ) (ps : List Placed) → Reads bs from ps to → (drop from bs ≡ encoded (map (λ p. p.call) ps) ++ drop to bs) × AllByRecursion CallFits (map (λ p. p.call) ps)
   reads_lie from to [] same = (ap (λ n. drop n bs) same, tt)
   reads_lie from to (p ∷ more) (f, begins, is, calls, rest) =
       let here = field_lies from f (checked_is (field_at bs from) bs from f is).0 in
@@ -218,7 +218,7 @@ module _ (bs : List ℕ) (typed : (i : ℕ) → byte_at bs i < 256) where
         (subst FieldFits calls here.1, there.1),
       )
 
-  accepted_is : Judged bs (Ok tt) → All CallFits (calls_of bs) × (bs ≡ job_of (calls_of bs))
+  accepted_is : Judged bs (Ok tt) → AllByRecursion CallFits (calls_of bs) × (bs ≡ job_of (calls_of bs))
   accepted_is (at, reads, ends) =
       let f = ends.f in
       let front = encoded (calls_of bs) in
@@ -372,7 +372,7 @@ module _ (bs : List ℕ) where
 
 -- the calls after a front, with all fields known
 module _ (bs fields : List ℕ) where
-  read_all : (cs : List calls.Call) (n : ℕ) (front : List ℕ) → All CallFits cs → length cs ≤ n → bs ≡ front ++ (encoded cs ++ end_field (xor_of fields)) → front ++ encoded cs ≡ fields → (verdict_from (suc n) bs (length front) ≡ Ok tt) × (map (λ p. p.call) (calls_from (suc n) bs (length front)) ≡ cs)
+  read_all : (cs : List calls.Call) (n : ℕ) (front : List ℕ) → AllByRecursion CallFits cs → length cs ≤ n → bs ≡ front ++ (encoded cs ++ end_field (xor_of fields)) → front ++ encoded cs ≡ fields → (verdict_from (suc n) bs (length front) ≡ Ok tt) × (map (λ p. p.call) (calls_from (suc n) bs (length front)) ≡ cs)
   read_all [] n front fits h is whole =
       let at = length front in
       let taken : take at bs ≡ fields = ap (take at) is ∙ take_at front _ at refl ∙ sym (append-nil front) ∙ whole in
@@ -400,7 +400,7 @@ some_bytes (call.Junction j s) fits = omega arith
 some_bytes (call.Reach i j) fits = absurd fits
 some_bytes (call.Span i j) fits = absurd fits
 
-fewer_calls : (cs : List calls.Call) → All CallFits cs → length cs ≤ length (encoded cs)
+fewer_calls : (cs : List calls.Call) → AllByRecursion CallFits cs → length cs ≤ length (encoded cs)
 fewer_calls [] fits = omega arith
 fewer_calls (c ∷ cs) (fits, more) = omega (arith, some_bytes c fits, fewer_calls cs more, length-append (call_field c) (encoded cs))
 

@@ -2,7 +2,7 @@
 use Rattle.std.specs.Prelude.{◌≡◌, ℕ, ◌/◌, ◌%◌, ◌^◌, ◌<◌, List, [], ◌∷◌, ◌++◌, map, length, ℤ, Ok, Result, FitsSigned}
 use Rattle.std.specs.Int.{w32}
 use Rattle.std.proofs.Common.{of_z}
-use Rattle.std.specs.List.{flat_map, AllByRecursion as All}
+use Rattle.std.specs.List.{flat_map, AllByRecursion}
 use Rattle.refusals.specs.declared.Refusal.{Refusal}
 use Rattle.motion.specs.declared.moves.Move.{Move}
 use Rattle.plan.specs.declared.calls.Call.{Call}
@@ -57,7 +57,7 @@ job_of calls = encoded calls ++ end_field (xor_of (encoded calls))
 
 -- three coordinates, each a signed number of 32 bits
 abbrev pub PositionFits : List ℤ → Type 0
-PositionFits p = (length p ≡ 3) × All (FitsSigned w32) p
+PositionFits p = (length p ≡ 3) × AllByRecursion (FitsSigned w32) p
 
 abbrev pub MoveFits : Move → Type 0
 MoveFits m = PositionFits m.target × (m.acceleration < 2 ^ 16) × (m.feed < 2 ^ 16) × (m.corner < 2 ^ 16)
@@ -79,5 +79,5 @@ calls_of bs = map (λ p. p.call) (placed_calls bs)
 
 -- the jobs that the verdict accepts are the encodings of calls, and reading gives those calls back
 pub record Encoding (bs : List ℕ) (r : Result (Unit {0}) Refusal) : Type 0 where
-  pub accepted : r ≡ Ok tt → All CallFits (calls_of bs) × (bs ≡ job_of (calls_of bs))
-  pub encodes : (calls : List Call) → All CallFits calls → bs ≡ job_of calls → (r ≡ Ok tt) × (calls_of bs ≡ calls)
+  pub accepted : r ≡ Ok tt → AllByRecursion CallFits (calls_of bs) × (bs ≡ job_of (calls_of bs))
+  pub encodes : (calls : List Call) → AllByRecursion CallFits calls → bs ≡ job_of calls → (r ≡ Ok tt) × (calls_of bs ≡ calls)
