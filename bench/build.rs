@@ -16,5 +16,5 @@ fn folder() -> PathBuf {
         return PathBuf::from(folder);
     }
     let here = env::var_os("CARGO_MANIFEST_DIR").expect("cargo tells where the package is");
-    PathBuf::from(here).join("../target/staticlib")
+    PathBuf::from(here).join("../crates/firmware/out")
 }

@@ -293,7 +293,7 @@ fn main() {
             span: 1e7,
         }
     };
-    println!("library: libfirmware.a as `rt staticlib firmware` builds it");
+    println!("library: libfirmware.a as `rt lib` builds it");
     println!(
         "rivals:  by rustc, opt-level {}; buffers are not cleared before a run",
         env!("JIGSORREL_OPT_LEVEL")
