@@ -5,10 +5,12 @@
 mod tests {
     use kinds::{Both, Pair, Thinnest, Total, fold, saturating_sum};
     use refusals::{Layer, Refusal};
-    use sequences::Sequence;
+    use sequences::answering::make_all;
+    use sequences::calls::{Answer, Call};
     use sequences::flat::FlatList;
-
-    const NO_PLACE: Refusal = Refusal::NoPlace(Layer::Sequence);
+    use sequences::{NO_PLACE, Sequence};
+    use std::test::Fail;
+    use survey::{Spot, Survey};
 
     #[test]
     fn numbers_and_layers(rt: HostRuntime) {
@@ -77,6 +79,46 @@ mod tests {
         assert_eq!(rt; list.element_at(2), Ok(30));
         assert_eq!(rt; list.element_at(3), Err(NO_PLACE));
         assert_eq!(rt; list.element_at(65535), Err(NO_PLACE));
+    }
+
+    #[test]
+    fn a_run_answers_each_call(rt: HostRuntime) -> Result<(), Fail> {
+        let mut slots = [9u16; 2];
+        let mut list: FlatList<Thinnest> = FlatList::open(&mut slots);
+        let calls = [
+            Call::Insert(0, 20),
+            Call::Insert(0, 10),
+            Call::Insert(0, 30),
+            Call::RangeJoin(0, 2),
+            Call::ElementAt(2),
+        ];
+        let answers = make_all(rt.alloc(), &mut list, &calls)?;
+        assert!(rt; answers.len() == 5);
+        assert!(rt; answers[1] == Answer::Edit(Ok(())));
+        assert!(rt; answers[2] == Answer::Edit(Err(Refusal::Full)));
+        assert!(rt; answers[3] == Answer::Summary(Ok(10)));
+        assert!(rt; answers[4] == Answer::Element(Err(NO_PLACE)));
+        Ok(())
+    }
+
+    #[test]
+    fn the_first_of_the_thinnest(rt: HostRuntime) {
+        let mut slots = [9u16; 3];
+        let readings: FlatList<Thinnest> = FlatList::open(&mut slots);
+        let mut survey = Survey::open(readings);
+        assert_eq!(rt; survey.note(0, 300), Ok(()));
+        assert_eq!(rt; survey.note(1, 280), Ok(()));
+        assert_eq!(rt; survey.note(2, 280), Ok(()));
+        assert_eq!(rt; survey.note(0, 2001), Err(Refusal::Reading));
+        assert_eq!(rt;
+            survey.thinnest(0, 3),
+            Ok(Some(Spot {
+                reading: 280,
+                place: 1,
+            }))
+        );
+        assert_eq!(rt; survey.thinnest(1, 1), Ok(None));
+        assert_eq!(rt; survey.thinnest(2, 4), Err(Refusal::NoPlace(Layer::Survey)));
     }
 
     #[test]

@@ -1,9 +1,8 @@
 -- A workload on a plan, by the model: one call more.
-use Rattle.std.proofs.Common.{◌≡◌, ℕ, ◌+◌, List, [], ◌∷◌, ◌++◌, length, sym, refl, ap, ◌∙◌, subst, arith}
+use Rattle.std.proofs.Common.{◌≡◌, ℕ, ◌+◌, List, [], ◌∷◌, ◌++◌, sym, refl, ap, ◌∙◌, subst, arith}
 use Rattle.std.proofs.lemmas.List.FromFn.{map-range_with_len_more}
 use Rattle.std.proofs.lemmas.List.Sums.{fold_push}
 use Rattle.sequences.specs.Runs.{left_by, answers_by}
-use Rattle.motion.proofs.Laying.{laid_length}
 use Rattle.motion.specs.declared.blocks.Block.{Block}
 use Rattle.plan.specs.Calls.{answer, after, answers, after_all}
 use Rattle.plan.specs.Keeping.{Keeps, Follows}
@@ -23,27 +22,23 @@ answers_push : (b : Model) (calls : List Call) (call : Call) → answers_by afte
 answers_push b [] call = refl
 answers_push b (c ∷ calls) call = ap (λ told. answer b c ∷ told) (answers_push (after b c) calls call)
 
--- as many blocks as moves
-pub as_many : {S : Type 0} (list : S → List Block) (room : S → ℕ) (told : S → Type 0) (b : Model) (p : Plan S) → Keeps list room told b p → length (list p.blocks) ≡ length b.entries
-as_many list room told b p k = ap length k.holds ∙ laid_length b.start b.entries
-
-module _ {S : Type 0} (list : S → List Block) (room : S → ℕ) (told : S → Type 0) (b : Model) (seed size : ℕ) (mix : Mix) where
+module _ {S : Type 0} (list : S → List Block) (room : S → ℕ) (b : Model) (seed size : ℕ) (mix : Mix) where
   -- after n calls of the seed
   pub record Along (n digest : ℕ) (p : Plan S) : Type 0 where
     pub tells : digest ≡ digest_of (answers b (calls_of seed size mix n))
-    pub keeps : Keeps list room told (after_all b (calls_of seed size mix n)) p
+    pub keeps : Keeps list room (after_all b (calls_of seed size mix n)) p
 
-  pub along_more : (n digest next : ℕ) (p q : Plan S) (call : Call) (a : Answer) → Along n digest p → call ≡ call_at (draws_of seed n) size mix → Follows list room told (λ m. answer m call) (λ m. after m call) p q a → next ≡ digested_by digest a → Along (n + 1) next q
+  pub along_more : (n digest next : ℕ) (p q : Plan S) (call : Call) (a : Answer) → Along n digest p → call ≡ call_at (draws_of seed size n) mix → Follows list room (λ m. answer m call) (λ m. after m call) p q a → next ≡ digested_by digest a → Along (n + 1) next q
   along_more n digest next p q call a so drawn follows is =
       let calls = calls_of seed size mix n in
       let here = after_all b calls in
       let done = follows here so.keeps in
-      let more : calls_of seed size mix (n + 1) ≡ calls ++ (call ∷ []) = map-range_with_len_more (λ k. call_at (draws_of seed k) size mix) 0 n n (omega arith) ∙ ap (λ c. calls ++ (c ∷ [])) (sym drawn) in
+      let more : calls_of seed size mix (n + 1) ≡ calls ++ (call ∷ []) = map-range_with_len_more (λ k. call_at (draws_of seed size k) mix) 0 n n (omega arith) ∙ ap (λ c. calls ++ (c ∷ [])) (sym drawn) in
       record {
         tells =
             is
             ∙ (λ i. digested_by (so.tells i) (done.0 i))
             ∙ sym (fold_push digested_by 0 (answers b calls) (answer here call))
             ∙ ap digest_of (sym (answers_push b calls call) ∙ ap (answers b) (sym more));
-        keeps = subst (λ m. Keeps list room told m q) (sym (left_push b calls call) ∙ ap (after_all b) (sym more)) done.1;
+        keeps = subst (λ m. Keeps list room m q) (sym (left_push b calls call) ∙ ap (after_all b) (sym more)) done.1;
       }

@@ -6,6 +6,7 @@ use Rattle.refusals.specs.declared.Named.{Named}
 use Rattle.refusals.specs.declared.Named.TheVariants as named
 use Rattle.refusals.specs.declared.Refusal.{Refusal}
 use Rattle.motion.specs.declared.blocks.Block.{Block}
+use Rattle.motion.specs.declared.extents.Bounds.{Bounds}
 use Rattle.motion.specs.declared.extents.Extent.{Extent}
 use Rattle.plan.specs.Calls.{answers, after_all}
 use Rattle.plan.specs.Keeping.{Keeps}
@@ -15,12 +16,13 @@ use Rattle.plan.specs.declared.calls.Answer.{Answer}
 use Rattle.plan.specs.declared.calls.Answer.TheVariants as told
 use Rattle.plan.specs.declared.calls.Call.{Call}
 use Rattle.firmware.specs.Seeded.{calls_of}
+use Rattle.firmware.specs.declared.seeded.Mix.{Mix}
 use Rattle.firmware.specs.declared.workload.Workload.{Workload}
 
-abbrev pub junction_code : Named → ℕ → ℕ
-junction_code named.Nothing code = code
-junction_code (named.Junction junction) code = code + junction
-junction_code (named.Offset offset) code = code
+abbrev pub junction_code : Option Named → ℕ → ℕ
+junction_code None code = code
+junction_code (Some (named.Junction junction)) code = code + junction
+junction_code (Some (named.Offset offset)) code = code
 
 -- the number of a refusal above 40 bits, and the junction that it names
 abbrev pub refusal_code : Refusal → ℕ
@@ -33,8 +35,11 @@ coordinate_code c = unsigned_abs (c -ℤ negsuc 2147483647)
 abbrev pub with_coordinate : ℕ → ℤ → ℕ
 with_coordinate code c = ((code * 31) % 2 ^ 64 + coordinate_code c) % 2 ^ 64
 
+abbrev pub with_bounds : ℕ → Bounds → ℕ
+with_bounds code b = with_coordinate (with_coordinate code b.least) b.greatest
+
 abbrev pub extent_code : Extent → ℕ
-extent_code e = with_coordinate (with_coordinate (with_coordinate (with_coordinate (with_coordinate (coordinate_code e.least_x) e.greatest_x) e.least_y) e.greatest_y) e.least_z) e.greatest_z
+extent_code e = with_bounds (with_bounds (with_coordinate (coordinate_code e.x.least) e.x.greatest) e.y) e.z
 
 abbrev pub edit_code : Result (Unit {0}) Refusal → ℕ
 edit_code (Ok x) = 0
@@ -66,6 +71,9 @@ digested_by digest answer = ((digest * 1099511628211) % 2 ^ 64 + code_of answer)
 abbrev pub digest_of : List Answer → ℕ
 digest_of told = fold digested_by 0 told
 
+abbrev pub workload : ℕ → ℕ → Mix → ℕ → Workload
+workload seed size mix count = record { seed = seed; size = size; mix = mix; count = count }
+
 abbrev pub work_calls : Workload → List Call
 work_calls work = calls_of work.seed work.size work.mix work.count
 
@@ -74,8 +82,8 @@ pub record DeepAs (d n : ℕ) : Type 0 where
   pub least : fewest d ≤ n
   pub most : n ≤ 2 ^ d - 1
 
-module _ {S : Type 0} (list : S → List Block) (room : S → ℕ) (told : S → Type 0) where
+module _ {S : Type 0} (list : S → List Block) (room : S → ℕ) where
   -- a workload from the model b told a digest and led to a plan that stands for the model after it
   pub record Worked (b : Model) (work : Workload) (digest : ℕ) (p : Plan S) : Type 0 where
     pub tells : digest ≡ digest_of (answers b (work_calls work))
-    pub keeps : Keeps list room told (after_all b (work_calls work)) p
+    pub keeps : Keeps list room (after_all b (work_calls work)) p

@@ -1,18 +1,18 @@
 -- What the verdict and a whole job come to as numbers.
-use Rattle.std.specs.Prelude.{◌≡◌, ℕ, ◌+◌, ◌*◌, ◌<◌, ◌≤◌, List, length, Ok, Err, Result}
+use Rattle.std.specs.Prelude.{◌≡◌, ℕ, ◌+◌, ◌*◌, ◌<◌, ◌≤◌, List, length, Some, None, Ok, Err, Option, Result}
 use Rattle.refusals.specs.Table.{number_of, named_of}
 use Rattle.refusals.specs.declared.Named.{Named}
-use Rattle.refusals.specs.declared.Named.TheVariants.{Nothing, Junction, Offset}
+use Rattle.refusals.specs.declared.Named.TheVariants.{Junction, Offset}
 use Rattle.refusals.specs.declared.Refusal.{Refusal}
 use Rattle.plan.specs.Models.{Model}
 use Rattle.job.specs.Lines.{over}
 use Rattle.job.specs.Outputs.{job_output}
 use Rattle.job.specs.Texts.{text_room}
 
-abbrev pub offset_code : Named → ℕ
-offset_code Nothing = 0
-offset_code (Junction junction) = 0
-offset_code (Offset offset) = offset
+abbrev pub offset_code : Option Named → ℕ
+offset_code None = 0
+offset_code (Some (Junction junction)) = 0
+offset_code (Some (Offset offset)) = offset
 
 -- the number of a fault, and the offset that it names in the lower 32 bits
 abbrev pub fault_code : Refusal → ℕ

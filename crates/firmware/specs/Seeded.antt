@@ -35,22 +35,25 @@ move_at draws = record {
   corner = drawn_place draws 6 3001;
 }
 
+abbrev pub asking_call : Draws → Call
+asking_call draws = Junction (drawn_place draws 9 draws.size) 0
+
 abbrev pub filling_call : Draws → Call
 filling_call draws = Insert (drawn_place draws 8 (min (draws.call + 1) 4294967295)) (move_at draws)
 
-abbrev pub replacing_call : Draws → ℕ → Call
-replacing_call draws size = cond (draws.call % 2 == 0) (Replace (drawn_place draws 8 size) (move_at draws)) (Junction (drawn_place draws 9 size) 0)
+abbrev pub replacing_call : Draws → Call
+replacing_call draws = cond (draws.call % 2 == 0) (Replace (drawn_place draws 8 draws.size) (move_at draws)) (asking_call draws)
 
-abbrev pub shifting_call : Draws → ℕ → Call
-shifting_call draws size =
-    cond (draws.call % 4 == 0) (Delete (drawn_place draws 8 size))
-    (cond (draws.call % 4 == 2) (Insert (drawn_place draws 8 size) (move_at draws)) (Junction (drawn_place draws 9 size) 0))
+abbrev pub shifting_call : Draws → Call
+shifting_call draws =
+    cond (draws.call % 4 == 0) (Delete (drawn_place draws 8 draws.size))
+    (cond (draws.call % 4 == 2) (Insert (drawn_place draws 8 draws.size) (move_at draws)) (asking_call draws))
 
-abbrev pub overriding_call : Draws → ℕ → Call
-overriding_call draws size =
+abbrev pub overriding_call : Draws → Call
+overriding_call draws =
     cond (draws.call % 2 == 0)
-    (Override (drawn_place draws 8 size) (min (min (drawn_place draws 8 size + 64) 65535) size) (drawn_below draws 10 191 % 191 + 10))
-    (Junction (drawn_place draws 9 size) 0)
+    (Override (drawn_place draws 8 draws.size) (min (min (drawn_place draws 8 draws.size + 64) 65535) draws.size) (drawn_below draws 10 191 % 191 + 10))
+    (asking_call draws)
 
 abbrev pub any_call : ℕ → Draws → ℕ → ℕ → Call
 any_call kind draws i j =
@@ -64,21 +67,21 @@ any_call kind draws i j =
     (cond (kind == 7) (Reach i j)
     (cond (kind == 8) (Span (min i j) (max i j)) (Junction i (drawn_below draws 7 4000000))))))))))
 
-abbrev pub everything_call : Draws → ℕ → Call
-everything_call draws size = any_call (drawn_below draws 0 12) draws (drawn_place draws 8 (size + 2)) (drawn_place draws 9 (size + 2))
+abbrev pub everything_call : Draws → Call
+everything_call draws = any_call (drawn_below draws 0 12) draws (drawn_place draws 8 (draws.size + 2)) (drawn_place draws 9 (draws.size + 2))
 
-abbrev pub mixed_call : Mix → Draws → ℕ → Call
-mixed_call Everything draws size = everything_call draws size
-mixed_call Replacing draws size = replacing_call draws size
-mixed_call Shifting draws size = shifting_call draws size
-mixed_call Overriding draws size = overriding_call draws size
+abbrev pub mixed_call : Mix → Draws → Call
+mixed_call Everything draws = everything_call draws
+mixed_call Replacing draws = replacing_call draws
+mixed_call Shifting draws = shifting_call draws
+mixed_call Overriding draws = overriding_call draws
 
-abbrev pub call_at : Draws → ℕ → Mix → Call
-call_at draws size mix = cond (nat_lt draws.call size) (filling_call draws) (mixed_call mix draws size)
+abbrev pub call_at : Draws → Mix → Call
+call_at draws mix = cond (nat_lt draws.call draws.size) (filling_call draws) (mixed_call mix draws)
 
-abbrev pub draws_of : ℕ → ℕ → Draws
-draws_of seed k = record { seed = seed; call = k }
+abbrev pub draws_of : ℕ → ℕ → ℕ → Draws
+draws_of seed size k = record { seed = seed; size = size; call = k }
 
 -- the first calls of a seed
 abbrev pub calls_of : ℕ → ℕ → Mix → ℕ → List Call
-calls_of seed size mix count = map (λ k. call_at (draws_of seed k) size mix) (range_with_len 0 count)
+calls_of seed size mix count = map (λ k. call_at (draws_of seed size k) mix) (range_with_len 0 count)

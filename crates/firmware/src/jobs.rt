@@ -4,27 +4,24 @@ ghost use Rattle.firmware.specs.Jobs.{fault_code, verdict_code, Ran};
 ghost use Rattle.job.specs.Verdicts.{verdict_of};
 ghost use Rattle.plan.specs.Models.{opened};
 
+use crate::NUMBERS;
 use job::running::run_into;
 use job::whole::verdict;
-use motion::Block;
 use plan::Plan;
-use plan::summaries::{PlanKind, Summary};
+use plan::summaries::Blocks;
 use refusals::{Named, Refusal};
-use sequences::Sequence;
 
-// What is answered where the buffer is too short: no text is as long.
+// What C is answered, which takes no `Option`, where the buffer is too short: no text is as long.
 const SHORT: u64 = u64::MAX;
 
-const NUMBERS: u64 = 4_294_967_296;
-
+// A number, since C takes no enum of ours. The digest's code of a refusal is another number with another name in it.
 fn fault_code(why: Refusal) -> u64
     ensures { result ≡ fault_code why }
 {
     let number = u64::from(why.number()) * NUMBERS;
     match why.named() {
-        Named::Offset(offset) => number + u64::from(offset),
-        Named::Nothing => number,
-        Named::Junction(_) => number,
+        Some(Named::Offset(offset)) => number + u64::from(offset),
+        Some(Named::Junction(_)) | None => number,
     }
 }
 
@@ -39,13 +36,8 @@ pub(crate) fn verdict_of(job: &[u8]) -> u64
 }
 
 // Runs a job on a new plan over any sequence that is still empty, and writes its text at the front of a buffer.
-pub(crate) fn run_over<S: Sequence<Element = Block, Summary = Summary, Kind = PlanKind> + Drop>(
-    blocks: S,
-    job: &[u8],
-    text: &mut [u8],
-) -> u64
-    requires empty { S.Sequence.list blocks ≡ [] }
-    requires told { S.Sequence.told blocks }
+pub(crate) fn run_over<S: Blocks + Drop>(blocks: S, job: &[u8], text: &mut [u8]) -> u64
+    requires { S.Sequence.list blocks ≡ [] }
     ensures { Ran (opened (S.Sequence.room blocks)) job.now text.old text.new result }
 {
     let mut plan = Plan::open(blocks);

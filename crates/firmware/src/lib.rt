@@ -1,5 +1,6 @@
 // The library behind a few functions on numbers and bytes, for firmware and for tests in other languages. Nothing here
-// allocates, and no call leaves anything behind: a plan lives on the stack of the call that makes it.
+// allocates, and no call leaves anything behind: a plan lives on the stack of the call that makes it. C hands over a seed, a
+// size, a mix and a count one by one.
 #![tactic(auto)]
 
 ghost use Rattle.std.specs.Prelude.{◌≡◌, length};
@@ -10,11 +11,9 @@ ghost use Rattle.job.specs.Verdicts.{verdict_of};
 ghost use Rattle.plan.specs.Calls.{answers, after_all};
 ghost use Rattle.plan.specs.Models.{opened};
 
-use kinds::Kind;
 use motion::{Block, Move};
 use plan::summaries::{PlanKind, Summary};
-use rows::Row;
-use seeded::mix_of;
+use rows::{Row, idle};
 use sequences::flat::FlatList;
 use tree::Tree;
 use workload::{Workload, depth_over, digest_over};
@@ -22,6 +21,9 @@ use workload::{Workload, depth_over, digest_over};
 mod jobs;
 pub mod seeded;
 pub mod workload;
+
+// Numbers of refusals stand above 32 bits, and what they name below.
+const NUMBERS: u64 = 4_294_967_296;
 
 // The rows of a plan that runs a job.
 const JOB_ROWS: usize = 256;
@@ -31,26 +33,12 @@ const MOST_ROWS: usize = 4096;
 const MOST_SLOTS: usize = 256;
 
 // What a row or a slot holds before its first use.
-const IDLE: Move = Move {
-    target: [0, 0, 0],
-    acceleration: 1,
-    feed: 1,
-    corner: 0,
-};
-
 fn idle_block() -> Block {
-    Block::new([0, 0, 0], IDLE, 100)
+    Block::new([0, 0, 0], Move::IDLE, 100)
 }
 
 fn idle_row() -> Row<Block, Summary> {
-    Row {
-        element: idle_block(),
-        summary: PlanKind::unit(),
-        left: None,
-        right: None,
-        depth: 0,
-        count: 0,
-    }
+    idle::<PlanKind>(idle_block())
 }
 
 // The verdict on a job.
@@ -78,15 +66,7 @@ pub extern "C" fn jigsorrel_calls_on_tree(seed: u64, size: u16, mix: u8, count: 
 {
     let mut rows = [idle_row(); MOST_ROWS];
     let blocks: Tree<PlanKind> = Tree::open(&mut rows);
-    digest_over(
-        blocks,
-        Workload {
-            seed,
-            size,
-            mix: mix_of(mix),
-            count,
-        },
-    )
+    digest_over(blocks, Workload::new(seed, size, mix, count))
 }
 
 // The depth that the same calls leave the tree at.
@@ -96,31 +76,15 @@ pub extern "C" fn jigsorrel_depth_after(seed: u64, size: u16, mix: u8, count: u3
 {
     let mut rows = [idle_row(); MOST_ROWS];
     let blocks: Tree<PlanKind> = Tree::open(&mut rows);
-    depth_over(
-        blocks,
-        Workload {
-            seed,
-            size,
-            mix: mix_of(mix),
-            count,
-        },
-    )
+    depth_over(blocks, Workload::new(seed, size, mix, count))
 }
 
-// The digest of what seeded calls are answered by a plan over a flat list of 256 slots.
+// The same over a flat list of 256 slots. C takes no type parameter, so each size has a function and a name.
 #[unsafe(no_mangle)]
 pub extern "C" fn jigsorrel_calls_on_list(seed: u64, size: u16, mix: u8, count: u32) -> u64
     ensures { result ≡ digest_of (answers (opened 256) (calls_of seed size (mix_of mix) count)) }
 {
     let mut slots = [idle_block(); MOST_SLOTS];
     let blocks: FlatList<PlanKind> = FlatList::open(&mut slots);
-    digest_over(
-        blocks,
-        Workload {
-            seed,
-            size,
-            mix: mix_of(mix),
-            count,
-        },
-    )
+    digest_over(blocks, Workload::new(seed, size, mix, count))
 }

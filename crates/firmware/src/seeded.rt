@@ -1,11 +1,11 @@
 // Calls of a plan drawn from a seed, so that a program in another language can draw the same ones.
 ghost use Rattle.std.specs.Prelude.{◌≡◌};
-ghost use Rattle.firmware.specs.Seeded.{drawn, drawn_below, drawn_place, mix_of, move_at, filling_call, replacing_call, shifting_call, overriding_call, everything_call, call_at};
+ghost use Rattle.firmware.specs.Seeded.{drawn, drawn_below, drawn_place, mix_of, move_at, asking_call, filling_call, replacing_call, shifting_call, overriding_call, everything_call, call_at};
 
 use motion::Move;
 use plan::calls::Call;
 
-// What is done once a plan is filled.
+// What is done once a plan is filled. C names it by a byte, and each draws its calls in its own way.
 #[derive(Clone, Copy)]
 pub enum Mix {
     // Every call, also with places and rates that are refused.
@@ -18,21 +18,24 @@ pub enum Mix {
     Overriding,
 }
 
-pub fn mix_of(byte: u8) -> Mix
-    ensures { result ≡ mix_of byte }
-{
-    match byte {
-        1 => Mix::Replacing,
-        2 => Mix::Shifting,
-        3 => Mix::Overriding,
-        _ => Mix::Everything,
+impl From<u8> for Mix {
+    ghost from_gives = { λ byte mix. mix ≡ mix_of byte };
+
+    fn from(byte: u8) -> Mix {
+        match byte {
+            1 => Mix::Replacing,
+            2 => Mix::Shifting,
+            3 => Mix::Overriding,
+            _ => Mix::Everything,
+        }
     }
 }
 
-// The draws for one call of a seed.
+// The draws for one call of a seed, after as many that fill a plan.
 #[derive(Clone, Copy)]
 pub struct Draws {
     pub seed: u64,
+    pub size: u16,
     pub call: u32,
 }
 
@@ -48,6 +51,7 @@ const HALF: u64 = 4_294_967_296;
 
 impl Draws {
     // A step of a congruential generator from a point of its own for each call and salt, its halves multiplied.
+    #[tactic(auto, unfolding(crate::specs::Seeded::drawn))]
     fn at(self, salt: u8) -> u32
         ensures { result ≡ drawn self salt }
     {
@@ -72,6 +76,7 @@ impl Draws {
         (self.below(salt, n) % 65_536) as u16
     }
 
+    #[tactic(auto, unfolding(crate::specs::Seeded::move_at))]
     fn random_move(self) -> Move
         ensures { result ≡ move_at self }
     {
@@ -86,85 +91,94 @@ impl Draws {
             corner: self.place(6, 3001),
         }
     }
-}
 
-// Puts in one move more, anywhere.
-fn filling_call(draws: Draws) -> Call
-    ensures { result ≡ filling_call draws }
-{
-    Call::Insert(
-        draws.place(8, draws.call.saturating_add(1)),
-        draws.random_move(),
-    )
-}
-
-fn replacing_call(draws: Draws, size: u16) -> Call
-    ensures { result ≡ replacing_call draws size }
-{
-    if draws.call % 2 == 0 {
-        Call::Replace(draws.place(8, u32::from(size)), draws.random_move())
-    } else {
-        Call::Junction(draws.place(9, u32::from(size)), 0)
+    // A place among those of a filled plan.
+    fn filled_place(self, salt: u8) -> u16
+        ensures { result ≡ drawn_place self salt self.size }
+    {
+        self.place(salt, u32::from(self.size))
     }
-}
 
-fn shifting_call(draws: Draws, size: u16) -> Call
-    ensures { result ≡ shifting_call draws size }
-{
-    let turn = draws.call % 4;
-    if turn == 0 {
-        Call::Delete(draws.place(8, u32::from(size)))
-    } else if turn == 2 {
-        Call::Insert(draws.place(8, u32::from(size)), draws.random_move())
-    } else {
-        Call::Junction(draws.place(9, u32::from(size)), 0)
+    // The question between edits.
+    fn asking(self) -> Call
+        ensures { result ≡ asking_call self }
+    {
+        Call::Junction(self.filled_place(9), 0)
     }
-}
 
-fn overriding_call(draws: Draws, size: u16) -> Call
-    ensures { result ≡ overriding_call draws size }
-{
-    if draws.call % 2 == 0 {
-        let i = draws.place(8, u32::from(size));
-        let percent = draws.below(10, 191) % 191 + 10;
-        Call::Override(i, i.saturating_add(64).min(size), percent as u8)
-    } else {
-        Call::Junction(draws.place(9, u32::from(size)), 0)
+    // Puts in one move more, anywhere.
+    fn filling(self) -> Call
+        ensures { result ≡ filling_call self }
+    {
+        Call::Insert(
+            self.place(8, self.call.saturating_add(1)),
+            self.random_move(),
+        )
     }
-}
 
-// Places up to two past the end, so that some calls are refused.
-fn everything_call(draws: Draws, size: u16) -> Call
-    ensures { result ≡ everything_call draws size }
-{
-    let near = u32::from(size) + 2;
-    let i = draws.place(8, near);
-    let j = draws.place(9, near);
-    match draws.below(0, 12) {
-        0 => Call::Insert(i, draws.random_move()),
-        1 => Call::Insert(i, draws.random_move()),
-        2 => Call::Replace(i, draws.random_move()),
-        3 => Call::Delete(i),
-        4 => Call::Delete(i),
-        5 => Call::Override(i.min(j), i.max(j), (draws.below(10, 220) % 220) as u8),
-        6 => Call::Start(draws.random_move().target),
-        7 => Call::Reach(i, j),
-        8 => Call::Span(i.min(j), i.max(j)),
-        _ => Call::Junction(i, draws.below(7, 4_000_000)),
+    fn replacing(self) -> Call
+        ensures { result ≡ replacing_call self }
+    {
+        if self.call % 2 == 0 {
+            Call::Replace(self.filled_place(8), self.random_move())
+        } else {
+            self.asking()
+        }
     }
-}
 
-// The call of a seed by its number: the first ones fill a plan with `size` blocks.
-pub fn call_at(draws: Draws, size: u16, mix: Mix) -> Call
-    ensures { result ≡ call_at draws size mix }
-{
-    if draws.call < u32::from(size) {
-        return filling_call(draws);
+    fn shifting(self) -> Call
+        ensures { result ≡ shifting_call self }
+    {
+        match self.call % 4 {
+            0 => Call::Delete(self.filled_place(8)),
+            2 => Call::Insert(self.filled_place(8), self.random_move()),
+            _ => self.asking(),
+        }
     }
-    match mix {
-        Mix::Everything => everything_call(draws, size),
-        Mix::Replacing => replacing_call(draws, size),
-        Mix::Shifting => shifting_call(draws, size),
-        Mix::Overriding => overriding_call(draws, size),
+
+    fn overriding(self) -> Call
+        ensures { result ≡ overriding_call self }
+    {
+        if self.call % 2 == 0 {
+            let i = self.filled_place(8);
+            let percent = self.below(10, 191) % 191 + 10;
+            Call::Override(i, i.saturating_add(64).min(self.size), percent as u8)
+        } else {
+            self.asking()
+        }
+    }
+
+    // Places up to two past the end, so that some calls are refused.
+    fn everything(self) -> Call
+        ensures { result ≡ everything_call self }
+    {
+        let near = u32::from(self.size) + 2;
+        let i = self.place(8, near);
+        let j = self.place(9, near);
+        match self.below(0, 12) {
+            0 | 1 => Call::Insert(i, self.random_move()),
+            2 => Call::Replace(i, self.random_move()),
+            3 | 4 => Call::Delete(i),
+            5 => Call::Override(i.min(j), i.max(j), (self.below(10, 220) % 220) as u8),
+            6 => Call::Start(self.random_move().target),
+            7 => Call::Reach(i, j),
+            8 => Call::Span(i.min(j), i.max(j)),
+            _ => Call::Junction(i, self.below(7, 4_000_000)),
+        }
+    }
+
+    // The call that is drawn: the first ones fill a plan.
+    pub fn drawn_call(self, mix: Mix) -> Call
+        ensures { result ≡ call_at self mix }
+    {
+        if self.call < u32::from(self.size) {
+            return self.filling();
+        }
+        match mix {
+            Mix::Everything => self.everything(),
+            Mix::Replacing => self.replacing(),
+            Mix::Shifting => self.shifting(),
+            Mix::Overriding => self.overriding(),
+        }
     }
 }

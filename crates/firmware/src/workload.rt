@@ -1,17 +1,18 @@
 // Seeded calls on a plan, for comparison with another program and for benchmarks.
 ghost use Rattle.std.specs.Prelude.{◌≡◌, [], length};
-ghost use Rattle.firmware.specs.Digests.{refusal_code, coordinate_code, with_coordinate, extent_code, code_of, digested_by, digest_of, Worked, work_calls, DeepAs};
+ghost use Rattle.firmware.specs.Digests.{refusal_code, coordinate_code, with_coordinate, with_bounds, extent_code, code_of, digested_by, digest_of, workload, Worked, work_calls, DeepAs};
+ghost use Rattle.firmware.specs.Seeded.{mix_of};
 ghost use Rattle.plan.specs.Calls.{answers, after_all};
 ghost use Rattle.plan.specs.Keeping.{Keeps};
 ghost use Rattle.plan.specs.Models.{Model, opened};
 
-use crate::seeded::{Draws, Mix, call_at};
-use motion::{Block, Extent};
+use crate::NUMBERS;
+use crate::seeded::{Draws, Mix};
+use motion::{Bounds, Extent};
 use plan::Plan;
 use plan::calls::Answer;
-use plan::summaries::{PlanKind, Summary};
+use plan::summaries::Blocks;
 use refusals::{Named, Refusal};
-use sequences::Sequence;
 use sequences::deep::Deep;
 
 // Seeded calls, by how many blocks they fill a plan with and what comes then.
@@ -23,20 +24,32 @@ pub struct Workload {
     pub count: u32,
 }
 
-const REFUSED: u64 = 1_099_511_627_776;
+impl Workload {
+    // The byte says what comes once the plan is filled.
+    pub fn new(seed: u64, size: u16, mix: u8, count: u32) -> Workload
+        ensures { result ≡ workload seed size (mix_of mix) count }
+    {
+        Workload {
+            seed,
+            size,
+            mix: Mix::from(mix),
+            count,
+        }
+    }
+}
 
-const NUMBERS: u64 = 4_294_967_296;
+const REFUSED: u64 = 1_099_511_627_776;
 
 const DIGEST_FACTOR: u64 = 1_099_511_628_211;
 
+// A number, since C takes no enum of ours.
 fn refusal_code(why: Refusal) -> u64
     ensures { result ≡ refusal_code why }
 {
     let number = REFUSED + u64::from(why.number()) * NUMBERS;
     match why.named() {
-        Named::Junction(junction) => number + u64::from(junction),
-        Named::Nothing => number,
-        Named::Offset(_) => number,
+        Some(Named::Junction(junction)) => number + u64::from(junction),
+        Some(Named::Offset(_)) | None => number,
     }
 }
 
@@ -52,31 +65,37 @@ fn with_coordinate(code: u64, c: i32) -> u64
     code.wrapping_mul(31).wrapping_add(coordinate_code(c))
 }
 
+fn with_bounds(code: u64, bounds: Bounds) -> u64
+    ensures { result ≡ with_bounds code bounds }
+{
+    with_coordinate(with_coordinate(code, bounds.least), bounds.greatest)
+}
+
 fn extent_code(extent: Extent) -> u64
     ensures { result ≡ extent_code extent }
 {
-    let x = with_coordinate(coordinate_code(extent.least_x), extent.greatest_x);
-    let y = with_coordinate(with_coordinate(x, extent.least_y), extent.greatest_y);
-    with_coordinate(with_coordinate(y, extent.least_z), extent.greatest_z)
+    let Extent { x, y, z } = extent;
+    let along_x = with_coordinate(coordinate_code(x.least), x.greatest);
+    with_bounds(with_bounds(along_x, y), z)
 }
 
-// An answer as a number.
+// An answer as a number, since C takes no enum of ours, and a program in another language makes the digest too.
 fn code_of(answer: Answer) -> u64
     ensures { result ≡ code_of answer }
 {
     match answer {
         Answer::Edit(Ok(())) => 0,
-        Answer::Speed(Ok(speed)) => u64::from(speed),
-        Answer::Length(Ok(length)) => u64::from(length),
+        Answer::Speed(Ok(n)) | Answer::Length(Ok(n)) => u64::from(n),
         Answer::Extent(Ok(None)) => 1,
         Answer::Extent(Ok(Some(extent))) => extent_code(extent),
-        Answer::Edit(Err(why)) => refusal_code(why),
-        Answer::Speed(Err(why)) => refusal_code(why),
-        Answer::Length(Err(why)) => refusal_code(why),
-        Answer::Extent(Err(why)) => refusal_code(why),
+        Answer::Edit(Err(why))
+        | Answer::Speed(Err(why))
+        | Answer::Length(Err(why))
+        | Answer::Extent(Err(why)) => refusal_code(why),
     }
 }
 
+#[tactic(auto, unfolding(crate::specs::Digests::digested_by))]
 fn digested(digest: u64, answer: Answer) -> u64
     ensures { result ≡ digested_by digest answer }
 {
@@ -85,40 +104,32 @@ fn digested(digest: u64, answer: Answer) -> u64
         .wrapping_add(code_of(answer))
 }
 
-fn digest_calls<S: Sequence<Element = Block, Summary = Summary, Kind = PlanKind>>(
-    plan: &mut Plan<S>,
-    work: Workload,
-) -> u64
-    ensures { (b : Model) → Keeps S.Sequence.list S.Sequence.room S.Sequence.told b plan.old → Worked S.Sequence.list S.Sequence.room S.Sequence.told b work result plan.new }
+fn digest_calls<S: Blocks>(plan: &mut Plan<S>, work: Workload) -> u64
+    ensures { (b : Model) → Keeps S.Sequence.list S.Sequence.room b plan.old → Worked S.Sequence.list S.Sequence.room b work result plan.new }
 {
     let mut digest = 0;
+    // By the number of each call, from which it is drawn.
     for call in 0..work.count {
         let draws = Draws {
             seed: work.seed,
+            size: work.size,
             call,
         };
-        digest = digested(digest, plan.apply(call_at(draws, work.size, work.mix)));
+        digest = digested(digest, plan.apply(draws.drawn_call(work.mix)));
     }
     digest
 }
 
-pub(crate) fn digest_over<S: Sequence<Element = Block, Summary = Summary, Kind = PlanKind> + Drop>(
-    blocks: S,
-    work: Workload,
-) -> u64
-    requires empty { S.Sequence.list blocks ≡ [] }
-    requires told { S.Sequence.told blocks }
+pub(crate) fn digest_over<S: Blocks + Drop>(blocks: S, work: Workload) -> u64
+    requires { S.Sequence.list blocks ≡ [] }
     ensures { result ≡ digest_of (answers (opened (S.Sequence.room blocks)) (work_calls work)) }
 {
     let mut plan = Plan::open(blocks);
     digest_calls(&mut plan, work)
 }
 
-pub(crate) fn depth_over<
-    S: Sequence<Element = Block, Summary = Summary, Kind = PlanKind> + Deep + Drop,
->(blocks: S, work: Workload) -> u8
-    requires empty { S.Sequence.list blocks ≡ [] }
-    requires told { S.Sequence.told blocks }
+pub(crate) fn depth_over<S: Blocks + Deep + Drop>(blocks: S, work: Workload) -> u8
+    requires { S.Sequence.list blocks ≡ [] }
     ensures { DeepAs result (length (after_all (opened (S.Sequence.room blocks)) (work_calls work)).entries) }
 {
     let mut plan = Plan::open(blocks);

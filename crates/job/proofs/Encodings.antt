@@ -21,6 +21,7 @@ use Rattle.job.specs.declared.fields.Field.TheVariants.{Call, End}
 use Rattle.job.specs.declared.fields.Found.{Found}
 use Rattle.job.specs.declared.fields.Tag.{Tag}
 use Rattle.job.specs.declared.fields.Tag.TheVariants as tag
+use Rattle.job.proofs.Bodies.{found_there}
 use Rattle.job.proofs.Rooms.{refused_else, else_refused}
 
 two_is : (a b : ℕ) → b < 256 → (a ∷ b ∷ []) ≡ two_bytes (a * 256 + b)
@@ -70,18 +71,18 @@ tag_is byte it =
     (tag_else (eqb byte 7) byte tag.Replace it _ (eqb-true byte 7)
     (tag_else (eqb byte 8) byte tag.Start it _ (eqb-true byte 8)
     (tag_else (eqb byte 127) byte tag.End it _ (eqb-true byte 127)
-    (λ e. absurd (let z : ◌≡◌ {A = ℕ} 0 1 = cc in omega arith))))))))
+    (λ e. absurd (cc))))))))
 
 passed_is : (g f : Found) (r : Result (Unit {0}) Refusal) → passed g r ≡ Ok f → (g ≡ f) × (r ≡ Ok tt)
 passed_is g f (Ok x) e = (cc, refl)
-passed_is g f (Err why) e = absurd (let z : ◌≡◌ {A = ℕ} 0 1 = cc in omega arith)
+passed_is g f (Err why) e = absurd (cc)
 
 -- a field that passes is there, and its check came out well
 checked_is : (r : Result Found Refusal) (bs : List ℕ) (at : ℕ) (f : Found) → found_checked r bs at ≡ Ok f → (r ≡ Ok f) × (field_checked f.field bs at f.next ≡ Ok tt)
 checked_is (Ok g) bs at f e =
     let is = passed_is g f (field_checked g.field bs at g.next) e in
     (ap Ok is.0, subst (λ h. field_checked h.field bs at h.next ≡ Ok tt) is.0 is.1)
-checked_is (Err why) bs at f e = absurd (let z : ◌≡◌ {A = ℕ} 0 1 = cc in omega arith)
+checked_is (Err why) bs at f e = absurd (cc)
 
 end_is : (bs : List ℕ) (at byte next : ℕ) → end_checked bs at byte next ≡ Ok tt → (byte ≡ xor_of (take at bs)) × (length bs ≤ next)
 end_is bs at byte next e =
@@ -190,7 +191,7 @@ module _ (bs : List ℕ) (typed : (i : ℕ) → byte_at bs i < 256) where
   Lies at f = (drop at bs ≡ field_bytes f.field ++ drop f.next bs) × FieldFits f.field
 
   tagged_lies : (o : Option Tag) (at : ℕ) (f : Found) → tag_of (byte_at bs at) ≡ o → tagged_at o bs at ≡ Ok f → 3 ≤ length bs - at → Lies at f
-  tagged_lies None at f is e h = absurd (let z : ◌≡◌ {A = ℕ} 0 1 = cc in omega arith)
+  tagged_lies None at f is e h = absurd (cc)
   tagged_lies (Some it) at f is e h =
       let body = found (body_at it bs (at + 3)) (at + 3 + length_of it) in
       let long = else_refused (eqb (u16_at bs (at + 1)) (length_of it)) (refusal.FieldLength (offset_of at)) _ f e in
@@ -310,13 +311,8 @@ module _ (bs : List ℕ) where
   head_read it body rest at long lies =
       let byte : byte_at bs at ≡ tag_byte it = one_read at 0 at (omega arith) lies in
       let size = two_read (length body) (at + 1) (at + 3) (omega arith) (rest_read at 1 (at + 1) refl lies) in
-      let room : length bs - at ≡ 3 + (length_of it + length rest) = sym (length-drop at bs) ∙ ap length lies ∙ omega (arith, long, length-append body rest) in (
-        cond-false (ltb (length bs - at) 3) _ _ (le-ltb (length bs - at) 3 (omega arith))
-            ∙ ap (λ o. tagged_at o bs at) (ap tag_of byte ∙ tag_known it)
-            ∙ cond-true (eqb (u16_at bs (at + 1)) (length_of it)) _ _ (eq-eqb (u16_at bs (at + 1)) (length_of it) (size.0 ∙ long))
-            ∙ cond-false (ltb (length bs - at - 3) (length_of it)) _ _ (le-ltb (length bs - at - 3) (length_of it) (omega arith)),
-        size.1,
-      )
+      let room : length bs - at ≡ 3 + (length_of it + length rest) = sym (length-drop at bs) ∙ ap length lies ∙ omega (arith, long, length-append body rest) in
+      (found_there bs at it (ap tag_of byte ∙ tag_known it) (size.0 ∙ long) (omega arith), size.1)
 
   field_read : (c : calls.Call) (at to : ℕ) (rest : List ℕ) → CallFits c → to ≡ at + length (call_field c) → drop at bs ≡ call_field c ++ rest → field_at bs at ≡ Ok (found (Call c) to)
   field_read (call.Insert i m) at to rest (ok, fits) is lies =

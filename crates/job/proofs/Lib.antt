@@ -4,3 +4,4 @@ pub mod Stepping
 pub mod Goings
 pub mod Rooms
 pub mod Encodings
+pub mod Bodies

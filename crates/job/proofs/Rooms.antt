@@ -13,12 +13,12 @@ use Rattle.job.specs.declared.fields.Tag.{Tag}
 use Rattle.job.specs.declared.fields.Tag.TheVariants.{Insert, Delete, Override, Junction, Replace, Start, End}
 
 pub refused_else : {A : Type 0} (t : Bool) (why : Refusal) (told : Result A Refusal) (x : A) → cond t (Err why) told ≡ Ok x → (t ≡ false) × (told ≡ Ok x)
-refused_else true why told x e = absurd (let z : ◌≡◌ {A = ℕ} 0 1 = cc in omega arith)
+refused_else true why told x e = absurd (cc)
 refused_else false why told x e = (refl, e)
 
 pub else_refused : {A : Type 0} (t : Bool) (why : Refusal) (told : Result A Refusal) (x : A) → cond t told (Err why) ≡ Ok x → (t ≡ true) × (told ≡ Ok x)
 else_refused true why told x e = (refl, e)
-else_refused false why told x e = absurd (let z : ◌≡◌ {A = ℕ} 0 1 = cc in omega arith)
+else_refused false why told x e = absurd (cc)
 
 some_body : (tag : Tag) → 1 ≤ length_of tag
 some_body Insert = omega arith
@@ -30,7 +30,7 @@ some_body Start = omega arith
 some_body End = omega arith
 
 tagged_room : (tag : Option Tag) (bs : List ℕ) (at : ℕ) (f : Found) → tagged_at tag bs at ≡ Ok f → 3 ≤ length bs - at → at + 4 ≤ length bs
-tagged_room None bs at f e h = absurd (let z : ◌≡◌ {A = ℕ} 0 1 = cc in omega arith)
+tagged_room None bs at f e h = absurd (cc)
 tagged_room (Some tag) bs at f e h =
     let body = found (body_at tag bs (at + 3)) (at + 3 + length_of tag) in
     let fits = refused_else (ltb (length bs - at - 3) (length_of tag)) (refusal.Cut (offset_of at)) (Ok body) f (else_refused (eqb (u16_at bs (at + 1)) (length_of tag)) (refusal.FieldLength (offset_of at)) _ f e).1 in
@@ -43,11 +43,11 @@ field_room bs at f e =
 
 found_room : (r : Result Found Refusal) (bs : List ℕ) (at n : ℕ) → field_at bs at ≡ r → found_verdict (found_checked r bs at) (verdict_from n bs) ≡ Ok tt → at + 4 ≤ length bs
 found_room (Ok f) bs at n is e = field_room bs at f is
-found_room (Err why) bs at n is e = absurd (let z : ◌≡◌ {A = ℕ} 0 1 = cc in omega arith)
+found_room (Err why) bs at n is e = absurd (cc)
 
 -- a job that is whole from a place on has a field there
 pub verdict_room : (n : ℕ) (bs : List ℕ) (at : ℕ) → verdict_from n bs at ≡ Ok tt → at + 4 ≤ length bs
-verdict_room zero bs at e = absurd (let z : ◌≡◌ {A = ℕ} 0 1 = cc in omega arith)
+verdict_room zero bs at e = absurd (cc)
 verdict_room (suc n) bs at e = found_room (field_at bs at) bs at n refl e
 
 -- a part of a buffer from a place on, with w bytes written at its front

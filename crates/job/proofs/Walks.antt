@@ -1,11 +1,10 @@
 -- What one turn of the verdict keeps.
-use Rattle.std.proofs.Common.{◌≡◌, ℕ, zero, suc, ◌+◌, ◌≤◌, List, [], ◌∷◌, ◌++◌, length, Ok, sym, refl, ap, ◌∙◌, subst, append_assoc, arith}
-use Rattle.std.proofs.lemmas.List.{append-nil}
+use Rattle.std.proofs.Common.{◌≡◌, ℕ, zero, suc, ◌+◌, ◌≤◌, List, [], ◌∷◌, ◌++◌, length, Ok, sym, refl, ap, ◌∙◌, append_assoc, arith}
 use Rattle.plan.specs.declared.calls.Call as call
-use Rattle.job.specs.Judgements.{Reads, Judged}
+use Rattle.job.specs.Judgements.{Reads}
 use Rattle.job.specs.Outputs.{Placed, placed, field_calls, found_calls, calls_from, placed_calls}
 use Rattle.job.specs.Verdicts.{checked_at, field_verdict, found_verdict, verdict_from, verdict_of}
-use Rattle.job.specs.declared.fields.Field.TheVariants.{Call, End}
+use Rattle.job.specs.declared.fields.Field.TheVariants.{Call}
 use Rattle.job.specs.declared.fields.Found.{Found}
 
 -- what is left to read from a place on gives the verdict, and what was read leads to that place
@@ -36,15 +35,3 @@ left_on (suc n) bs at f c so e field lt le =
         calls = append_assoc so.read (placed at c ∷ []) (calls_from (suc n) bs f.next) ∙ ap (λ cs. so.read ++ cs) (sym rest) ∙ so.calls;
       },
     )
-
-module _ (n : ℕ) (bs : List ℕ) (at : ℕ) (so : Left n bs at) (f : Found) (byte : ℕ) (e : checked_at bs at ≡ Ok f) (field : f.field ≡ End byte) where
-  pub left_end : verdict_of bs ≡ Ok tt
-  left_end = sym so.verdict ∙ ap (λ r. found_verdict r (verdict_from n bs)) e ∙ ap (λ g. field_verdict g (verdict_from n bs f.next)) field
-
-  pub judged_end : Judged bs (Ok tt)
-  judged_end =
-      let none : calls_from (suc n) bs at ≡ [] = ap (λ r. found_calls r at (calls_from n bs)) e ∙ ap (λ g. field_calls g at (calls_from n bs f.next)) field in (
-        at,
-        subst (λ cs. Reads bs 0 cs at) (sym (append-nil so.read) ∙ ap (λ cs. so.read ++ cs) (sym none) ∙ so.calls) so.reads,
-        record { f = f; byte = byte; is = e; field = field },
-      )

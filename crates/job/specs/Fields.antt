@@ -1,5 +1,5 @@
 -- One field of a job: a tag byte, a two-byte length and a body.
-use Rattle.std.specs.Prelude.{ℕ, ◌+◌, ◌-◌, min, cond, List, length, Some, None, Ok, Err, Option, Result, ◌==◌, nat_lt}
+use Rattle.std.specs.Prelude.{◌≡◌, ℕ, ◌+◌, ◌-◌, min, cond, List, length, Some, None, Ok, Err, Option, Result, MatchResult, ◌==◌, nat_lt}
 use Rattle.refusals.specs.declared.Refusal.{Refusal}
 use Rattle.refusals.specs.declared.Refusal.TheVariants as refusal
 use Rattle.motion.specs.declared.moves.Move.{Move}
@@ -9,6 +9,7 @@ use Rattle.job.specs.declared.fields.Field.{Field}
 use Rattle.job.specs.declared.fields.Field.TheVariants as field
 use Rattle.job.specs.declared.fields.Found.{Found}
 use Rattle.job.specs.declared.fields.Tag.{Tag}
+use Rattle.job.specs.declared.fields.UnknownTag.{UnknownTag}
 use Rattle.job.specs.declared.fields.Tag.TheVariants.{Insert, Delete, Override, Junction, Replace, Start, End}
 
 -- a place as refusals name it, in 32 bits
@@ -24,6 +25,10 @@ tag_of byte =
     (cond (byte == 7) (Some Replace)
     (cond (byte == 8) (Some Start)
     (cond (byte == 127) (Some End) None))))))
+
+-- the result of reading a byte as a tag
+abbrev pub Tags : ℕ → Result Tag UnknownTag → Type 0
+Tags byte r = MatchResult r (λ tag. tag_of byte ≡ Some tag) (λ unknown. tag_of byte ≡ None)
 
 -- how long a body is
 abbrev pub length_of : Tag → ℕ

@@ -1,10 +1,11 @@
 -- The lines that a step answers, byte by byte.
-use Rattle.std.specs.Prelude.{ℕ, ◌+◌, List, [], ◌++◌, length, take, drop, Ok, Err, codes, decimal, Result}
+use Rattle.std.specs.Prelude.{◌≡◌, ℕ, ◌+◌, List, [], ◌++◌, length, take, drop, Some, None, Ok, Err, codes, decimal, Option, Result}
 use Rattle.refusals.specs.Table.{number_of, layer_of, name_of, named_of}
 use Rattle.refusals.specs.declared.Named.{Named}
-use Rattle.refusals.specs.declared.Named.TheVariants.{Nothing, Junction, Offset}
+use Rattle.refusals.specs.declared.Named.TheVariants.{Junction, Offset}
 use Rattle.refusals.specs.declared.Refusal.{Refusal}
 use Rattle.plan.specs.declared.calls.Answer.{Answer}
+use Rattle.job.specs.declared.lines.Line.{Line}
 use Rattle.plan.specs.declared.calls.Answer.TheVariants.{Edit, Speed, Extent, Length}
 
 -- the buffer with bs over it from a place on
@@ -15,6 +16,12 @@ laid line at bs = take at line ++ (bs ++ drop (at + length bs) line)
 abbrev pub over : List ℕ → List ℕ → List ℕ
 over bs line = bs ++ drop (length bs) line
 
+-- bs was written after the bytes that a line had
+pub record Grown (bs : List ℕ) (before after : Line) : Type 0 where
+  pub end : after.end ≡ before.end + length bs
+  pub bytes : after.bytes.now ≡ laid before.bytes.now before.end bs
+  pub room : length after.bytes.now ≡ length before.bytes.now
+
 abbrev pub ok_line : List ℕ
 ok_line = codes "ok\n"
 
@@ -22,18 +29,18 @@ abbrev pub speed_line : ℕ → List ℕ
 speed_line speed = codes "v " ++ decimal speed ++ codes "\n"
 
 -- the place that a refusal tells: its own, or that of the field
-abbrev pub place_named : Named → ℕ → ℕ
-place_named Nothing at = at
-place_named (Junction junction) at = at
-place_named (Offset offset) at = offset
+abbrev pub place_named : Option Named → ℕ → ℕ
+place_named None at = at
+place_named (Some (Junction junction)) at = at
+place_named (Some (Offset offset)) at = offset
 
 abbrev pub junction_part : ℕ → List ℕ
 junction_part junction = codes " junction " ++ decimal junction
 
-abbrev pub named_part : Named → List ℕ
-named_part Nothing = []
-named_part (Junction junction) = junction_part junction
-named_part (Offset offset) = []
+abbrev pub named_part : Option Named → List ℕ
+named_part None = []
+named_part (Some (Junction junction)) = junction_part junction
+named_part (Some (Offset offset)) = []
 
 -- number, layer and place, and the junction where one is named
 abbrev pub refused_line : Refusal → ℕ → List ℕ

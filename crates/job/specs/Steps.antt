@@ -13,8 +13,6 @@ use Rattle.job.specs.Verdicts.{checked_at}
 use Rattle.job.specs.declared.fields.Field.{Field}
 use Rattle.job.specs.declared.fields.Field.TheVariants.{Call, End}
 use Rattle.job.specs.declared.fields.Found.{Found}
-use Rattle.job.specs.declared.reading.steps.Outcome.{Outcome}
-use Rattle.job.specs.declared.reading.steps.Outcome.TheVariants.{Line, Over}
 
 abbrev pub refusal_of : {A : Type 0} → Result A Refusal → Option Refusal
 refusal_of (Ok x) = None
@@ -63,35 +61,35 @@ found_line b at (Err why) = []
 abbrev pub step_line : Model → ℕ → List ℕ → ℕ → List ℕ
 step_line b space bs at = cond (nat_lt space 64) [] (found_line b at (checked_at bs at))
 
--- a field's line by its length; at the end the job is over
-abbrev pub field_told : Model → ℕ → Field → Outcome
-field_told b at (Call call) = Line (length (answer_line (offset_of at) (answer b call)))
-field_told b at (End byte) = Over
+-- a field's line by its length; none at the end, where the job is over
+abbrev pub field_told : Model → ℕ → Field → Option ℕ
+field_told b at (Call call) = Some (length (answer_line (offset_of at) (answer b call)))
+field_told b at (End byte) = None
 
-abbrev pub found_told : Model → ℕ → Result Found Refusal → Result Outcome Refusal
+abbrev pub found_told : Model → ℕ → Result Found Refusal → Result (Option ℕ) Refusal
 found_told b at (Ok f) = Ok (field_told b at f.field)
 found_told b at (Err why) = Err why
 
 -- what a step tells
-abbrev pub step_told : Model → ℕ → List ℕ → ℕ → Result Outcome Refusal
+abbrev pub step_told : Model → ℕ → List ℕ → ℕ → Result (Option ℕ) Refusal
 step_told b space bs at = cond (nat_lt space 64) (Err Buffer) (found_told b at (checked_at bs at))
 
 -- a line fits the least buffer, and its field takes four bytes or more
-abbrev pub Bounded : Result Outcome Refusal → ℕ → ℕ → Type 0
-Bounded (Ok (Line written)) from to = (written ≤ 64) × (from + 4 ≤ to)
-Bounded (Ok Over) from to = Unit {0}
+abbrev pub Bounded : Result (Option ℕ) Refusal → ℕ → ℕ → Type 0
+Bounded (Ok (Some written)) from to = (written ≤ 64) × (from + 4 ≤ to)
+Bounded (Ok None) from to = Unit {0}
 Bounded (Err why) from to = Unit {0}
 
 -- a refusal and the end alter neither reader nor plan nor buffer
-abbrev pub Unmoved : Result Outcome Refusal → Type 0 → Type 0 → Type 0 → Type 0
-Unmoved (Ok (Line written)) reader plan line = Unit {0}
-Unmoved (Ok Over) reader plan line = reader × plan × line
+abbrev pub Unmoved : Result (Option ℕ) Refusal → Type 0 → Type 0 → Type 0 → Type 0
+Unmoved (Ok (Some written)) reader plan line = Unit {0}
+Unmoved (Ok None) reader plan line = reader × plan × line
 Unmoved (Err why) reader plan line = reader × plan × line
 
-module _ {S : Type 0} (list : S → List Block) (room : S → ℕ) (told : S → Type 0) where
+module _ {S : Type 0} (list : S → List Block) (room : S → ℕ) where
   -- a step from the model b told r, laid its line over the front of the buffer, and led to a plan that stands for the
   -- model after it
-  pub record Stepped (b : Model) (bs : List ℕ) (at : ℕ) (r : Result Outcome Refusal) (before after : List ℕ) (p : Plan S) : Type 0 where
+  pub record Stepped (b : Model) (bs : List ℕ) (at : ℕ) (r : Result (Option ℕ) Refusal) (before after : List ℕ) (p : Plan S) : Type 0 where
     pub tells : r ≡ step_told b (length before) bs at
     pub line : after ≡ over (step_line b (length before) bs at) before
-    pub keeps : Keeps list room told (step_model b (length before) bs at) p
+    pub keeps : Keeps list room (step_model b (length before) bs at) p

@@ -16,9 +16,9 @@ pub record Short (r : Option ℕ) (plan text : Type 0) : Type 0 where
   pub same_plan : plan
   pub same_text : text
 
-module _ {S : Type 0} (list : S → List Block) (room : S → ℕ) (told : S → Type 0) where
+module _ {S : Type 0} (list : S → List Block) (room : S → ℕ) where
   -- n bytes of text were laid over the front of the buffer, and the plan stands for the model b
   pub record Wrote (bytes : List ℕ) (b : Model) (n : ℕ) (before after : List ℕ) (p : Plan S) : Type 0 where
     pub long : n ≡ length bytes
     pub text : after ≡ over bytes before
-    pub keeps : Keeps list room told b p
+    pub keeps : Keeps list room b p

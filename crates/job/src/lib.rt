@@ -9,4 +9,3 @@ pub mod running;
 pub mod whole;
 
 pub use self::reading::Reader;
-pub use self::reading::steps::Outcome;

@@ -1,163 +1,120 @@
 // The lines that a step answers, written into the front of a buffer of 64 bytes or more.
 ghost use Rattle.std.specs.Prelude.{◌≡◌, ◌+◌, ◌≤◌, length, decimal};
-ghost use Rattle.job.specs.Lines.{laid, over, ok_line, speed_line, refused_line, junction_part, named_part, place_named, edit_line, told_speed_line, answer_line};
-ghost use Rattle.refusals.specs.Table.{name_of};
+ghost use Rattle.job.specs.Lines.{Grown, over, speed_line, refused_line, named_part, place_named, answer_line};
 
 use plan::calls::Answer;
-use refusals::{Layer, Named, Refusal};
+use refusals::{Named, Refusal};
 
 // The least buffer, which every line fits into.
 pub(crate) const LINE_ROOM: usize = 64;
 
-// Writes `text` from `at` on, and answers the place after it.
-fn put(line: &mut [u8], at: usize, text: &[u8]) -> usize
-    requires { at + length text.now ≤ length line.old }
-    ensures value { result ≡ at + length text.now }
-    ensures after { line.new ≡ laid line.old at text.now }
-{
-    let end = at + text.len();
-    line[at..end].copy_from_slice(text);
-    end
+// A line that is being written into the front of the caller's buffer. Each part asks for the room that it needs itself, and
+// says that the buffer is the same one, as the language wants of what takes a struct with a lent slice.
+#[derive(Drop)]
+struct Line<'a> {
+    bytes: &'a mut [u8],
+    end: usize,
 }
 
-// Writes `n` in decimal from `at` on, and answers the place after it.
-fn put_number(line: &mut [u8], at: usize, n: u32) -> usize
-    requires { at + 10 ≤ length line.old }
-    ensures bound { result ≤ at + 10 }
-    ensures value { result ≡ at + length (decimal n) }
-    ensures after { line.new ≡ laid line.old at (decimal n) }
-{
-    if n < 10 {
-        line[at] = b'0' + n as u8;
-        return at + 1;
+impl Line<'_> {
+    fn put(&mut self, text: &[u8])
+        requires { self.old.end + length text.now ≤ length self.old.bytes.now }
+        ensures same_reference { self.new.bytes.ghost_name ≡ self.old.bytes.ghost_name }
+        ensures grown { Grown text.now self.old self.new }
+    {
+        let end = self.end + text.len();
+        self.bytes[self.end..end].copy_from_slice(text);
+        self.end = end;
     }
-    let end = put_number(line, at, n / 10);
-    line[end] = b'0' + (n % 10) as u8;
-    end + 1
-}
 
-fn put_layer(line: &mut [u8], at: usize, layer: Layer) -> usize
-    requires { at + 8 ≤ length line.old }
-    ensures bound { result ≤ at + 8 }
-    ensures value { result ≡ at + length (name_of layer) }
-    ensures after { line.new ≡ laid line.old at (name_of layer) }
-{
-    match layer {
-        Layer::Sequence => put(line, at, b"sequence"),
-        Layer::Plan => put(line, at, b"plan"),
-        Layer::Survey => put(line, at, b"survey"),
-        Layer::Job => put(line, at, b"job"),
+    // Writes `n` in decimal, digit by digit: nothing here allocates.
+    fn put_number(&mut self, n: u32)
+        requires { self.old.end + 10 ≤ length self.old.bytes.now }
+        ensures same_reference { self.new.bytes.ghost_name ≡ self.old.bytes.ghost_name }
+        ensures bound { self.new.end ≤ self.old.end + 10 }
+        ensures grown { Grown (decimal n) self.old self.new }
+    {
+        if n >= 10 {
+            self.put_number(n / 10);
+        }
+        self.put(&[b'0' + (n % 10) as u8]);
     }
-}
 
-// Writes the junction of a refusal.
-fn put_junction(line: &mut [u8], at: usize, junction: u32) -> usize
-    requires { at + 20 ≤ length line.old }
-    ensures bound { result ≤ at + 20 }
-    ensures value { result ≡ at + length (junction_part junction) }
-    ensures after { line.new ≡ laid line.old at (junction_part junction) }
-{
-    let number = put(line, at, b" junction ");
-    put_number(line, number, junction)
-}
+    fn put_speed(&mut self, speed: u32)
+        requires { self.old.end + 64 ≤ length self.old.bytes.now }
+        ensures same_reference { self.new.bytes.ghost_name ≡ self.old.bytes.ghost_name }
+        ensures bound { self.new.end ≤ self.old.end + 64 }
+        ensures grown { Grown (speed_line speed) self.old self.new }
+    {
+        self.put(b"v ");
+        self.put_number(speed);
+        self.put(b"\n");
+    }
 
-// Writes what a refusal names besides a place.
-fn put_named(line: &mut [u8], at: usize, named: Named) -> usize
-    requires { at + 20 ≤ length line.old }
-    ensures bound { result ≤ at + 20 }
-    ensures value { result ≡ at + length (named_part named) }
-    ensures after { line.new ≡ laid line.old at (named_part named) }
-{
-    match named {
-        Named::Junction(junction) => put_junction(line, at, u32::from(junction)),
-        Named::Nothing => put(line, at, b""),
-        Named::Offset(_) => put(line, at, b""),
+    // Writes what a refusal names besides a place.
+    fn put_named(&mut self, named: Option<Named>)
+        requires { self.old.end + 20 ≤ length self.old.bytes.now }
+        ensures same_reference { self.new.bytes.ghost_name ≡ self.old.bytes.ghost_name }
+        ensures bound { self.new.end ≤ self.old.end + 20 }
+        ensures grown { Grown (named_part named) self.old self.new }
+    {
+        if let Some(Named::Junction(junction)) = named {
+            self.put(b" junction ");
+            self.put_number(u32::from(junction));
+        }
+    }
+
+    // Writes a refusal of the field at `at`, unless it names another place.
+    fn put_refused(&mut self, why: Refusal, at: u32)
+        requires { self.old.end + 64 ≤ length self.old.bytes.now }
+        ensures same_reference { self.new.bytes.ghost_name ≡ self.old.bytes.ghost_name }
+        ensures bound { self.new.end ≤ self.old.end + 64 }
+        ensures grown { Grown (refused_line why at) self.old self.new }
+    {
+        self.put(b"refused ");
+        self.put_number(u32::from(why.number()));
+        self.put(b" ");
+        self.put(why.layer().name().as_bytes());
+        self.put(b" ");
+        self.put_number(place_named(why.named(), at));
+        self.put_named(why.named());
+        self.put(b"\n");
+    }
+
+    // Writes what the field at `at` was answered; no field of a job asks for an extent or a length.
+    fn put_answer(&mut self, answer: Answer, at: u32)
+        requires { self.old.end + 64 ≤ length self.old.bytes.now }
+        ensures same_reference { self.new.bytes.ghost_name ≡ self.old.bytes.ghost_name }
+        ensures bound { self.new.end ≤ self.old.end + 64 }
+        ensures grown { Grown (answer_line at answer) self.old self.new }
+    {
+        match answer {
+            Answer::Edit(Ok(())) => self.put(b"ok\n"),
+            Answer::Speed(Ok(speed)) => self.put_speed(speed),
+            Answer::Edit(Err(why)) | Answer::Speed(Err(why)) => self.put_refused(why, at),
+            Answer::Extent(_) | Answer::Length(_) => {}
+        }
     }
 }
 
 // The place that a refusal of the field at `at` tells.
-fn place_named(named: Named, at: u32) -> u32
+fn place_named(named: Option<Named>, at: u32) -> u32
     ensures { result ≡ place_named named at }
 {
     match named {
-        Named::Offset(offset) => offset,
-        Named::Nothing => at,
-        Named::Junction(_) => at,
+        Some(Named::Offset(offset)) => offset,
+        Some(Named::Junction(_)) | None => at,
     }
 }
 
-fn put_ok(line: &mut [u8]) -> usize
-    requires { 64 ≤ length line.old }
-    ensures bound { result ≤ 64 }
-    ensures value { result ≡ length ok_line }
-    ensures after { line.new ≡ over ok_line line.old }
-{
-    put(line, 0, b"ok\n")
-}
-
-fn put_speed(line: &mut [u8], speed: u32) -> usize
-    requires { 64 ≤ length line.old }
-    ensures bound { result ≤ 64 }
-    ensures value { result ≡ length (speed_line speed) }
-    ensures after { line.new ≡ over (speed_line speed) line.old }
-{
-    let head = put(line, 0, b"v ");
-    let end = put_number(line, head, speed);
-    put(line, end, b"\n")
-}
-
-// The line of a refusal, for the field at `at` unless it names another place.
-pub(crate) fn put_refused(line: &mut [u8], why: Refusal, at: u32) -> usize
-    requires { 64 ≤ length line.old }
-    ensures bound { result ≤ 64 }
-    ensures value { result ≡ length (refused_line why at) }
-    ensures after { line.new ≡ over (refused_line why at) line.old }
-{
-    let number = put(line, 0, b"refused ");
-    let space = put_number(line, number, u32::from(why.number()));
-    let layer = put(line, space, b" ");
-    let gap = put_layer(line, layer, why.layer());
-    let place = put(line, gap, b" ");
-    let named = put_number(line, place, place_named(why.named(), at));
-    let end = put_named(line, named, why.named());
-    put(line, end, b"\n")
-}
-
-fn put_edit(line: &mut [u8], told: Result<(), Refusal>, at: u32) -> usize
-    requires { 64 ≤ length line.old }
-    ensures bound { result ≤ 64 }
-    ensures value { result ≡ length (edit_line told at) }
-    ensures after { line.new ≡ over (edit_line told at) line.old }
-{
-    match told {
-        Ok(()) => put_ok(line),
-        Err(why) => put_refused(line, why, at),
-    }
-}
-
-fn put_told_speed(line: &mut [u8], told: Result<u32, Refusal>, at: u32) -> usize
-    requires { 64 ≤ length line.old }
-    ensures bound { result ≤ 64 }
-    ensures value { result ≡ length (told_speed_line told at) }
-    ensures after { line.new ≡ over (told_speed_line told at) line.old }
-{
-    match told {
-        Ok(speed) => put_speed(line, speed),
-        Err(why) => put_refused(line, why, at),
-    }
-}
-
-// The line of what the field at `at` was answered; no field of a job asks for an extent or a length.
-pub(crate) fn put_answer(line: &mut [u8], answer: Answer, at: u32) -> usize
-    requires { 64 ≤ length line.old }
+// Writes the line of what the field at `at` was answered, and answers its length.
+pub(crate) fn put_answer(bytes: &mut [u8], answer: Answer, at: u32) -> usize
+    requires { 64 ≤ length bytes.old }
     ensures bound { result ≤ 64 }
     ensures value { result ≡ length (answer_line at answer) }
-    ensures after { line.new ≡ over (answer_line at answer) line.old }
+    ensures after { bytes.new ≡ over (answer_line at answer) bytes.old }
 {
-    match answer {
-        Answer::Edit(told) => put_edit(line, told, at),
-        Answer::Speed(told) => put_told_speed(line, told, at),
-        Answer::Extent(_) => 0,
-        Answer::Length(_) => 0,
-    }
+    let mut line = Line { bytes, end: 0 };
+    line.put_answer(answer, at);
+    line.end
 }

@@ -1,35 +1,36 @@
-// Numbers in a row of bytes, the most significant byte first.
+// Numbers in a row of bytes, the most significant byte first. Each type reads as many bytes as it has by its own
+// `from_be_bytes`, which no trait names: one generic function would want a trait of three impls. Each is read by its place, which a body's layout fixes.
 ghost use Rattle.std.specs.Prelude.{◌≡◌, ◌+◌, ◌≤◌, length};
 ghost use Rattle.job.specs.Numbers.{u16_at, u32_at, i32_at, position_at};
 
-pub fn read_u16(job: &[u8], at: usize) -> u16
-    requires { at + 2 ≤ length job.now }
-    ensures { result ≡ u16_at job.now at }
+pub fn read_u16(bytes: &[u8], at: usize) -> u16
+    requires { at + 2 ≤ length bytes.now }
+    ensures { result ≡ u16_at bytes.now at }
 {
-    u16::from_be_bytes([job[at], job[at + 1]])
+    u16::from_be_bytes([bytes[at], bytes[at + 1]])
 }
 
-pub fn read_u32(job: &[u8], at: usize) -> u32
-    requires { at + 4 ≤ length job.now }
-    ensures { result ≡ u32_at job.now at }
+pub fn read_u32(bytes: &[u8], at: usize) -> u32
+    requires { at + 4 ≤ length bytes.now }
+    ensures { result ≡ u32_at bytes.now at }
 {
-    u32::from_be_bytes([job[at], job[at + 1], job[at + 2], job[at + 3]])
+    u32::from_be_bytes([bytes[at], bytes[at + 1], bytes[at + 2], bytes[at + 3]])
 }
 
-pub fn read_i32(job: &[u8], at: usize) -> i32
-    requires { at + 4 ≤ length job.now }
-    ensures { result ≡ i32_at job.now at }
+pub fn read_i32(bytes: &[u8], at: usize) -> i32
+    requires { at + 4 ≤ length bytes.now }
+    ensures { result ≡ i32_at bytes.now at }
 {
-    i32::from_be_bytes([job[at], job[at + 1], job[at + 2], job[at + 3]])
+    i32::from_be_bytes([bytes[at], bytes[at + 1], bytes[at + 2], bytes[at + 3]])
 }
 
-pub fn read_position(job: &[u8], at: usize) -> [i32; 3]
-    requires { at + 12 ≤ length job.now }
-    ensures { result ≡ position_at job.now at }
+pub fn read_position(bytes: &[u8], at: usize) -> [i32; 3]
+    requires { at + 12 ≤ length bytes.now }
+    ensures { result ≡ position_at bytes.now at }
 {
     [
-        read_i32(job, at),
-        read_i32(job, at + 4),
-        read_i32(job, at + 8),
+        read_i32(bytes, at),
+        read_i32(bytes, at + 4),
+        read_i32(bytes, at + 8),
     ]
 }

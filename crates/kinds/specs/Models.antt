@@ -22,15 +22,15 @@ thinnest_laws = record {
   assoc = λ x y z p q r. omega arith;
 }
 
--- the sum of readings
-abbrev pub total : Rule ℕ ℕ
-total = record { one = λ e. min e top; unit = 0; join = ◌⊕◌ }
-
 abbrev pub fits32 : ℕ → Type 0
 fits32 s = s ≤ top
 
-pub total_laws : Laws fits32 total
-total_laws = record {
+-- the sum of what f gives of each element
+abbrev pub summed : {E : Type 0} → (E → ℕ) → Rule E ℕ
+summed f = record { one = λ e. min (f e) top; unit = 0; join = ◌⊕◌ }
+
+pub summed_laws : {E : Type 0} (f : E → ℕ) → Laws fits32 (summed f)
+summed_laws f = record {
   one_valid = λ e. omega arith;
   unit_valid = omega arith;
   join_valid = λ x y p q. sum_laws.bounded x y;
@@ -38,6 +38,13 @@ total_laws = record {
   unit_right = λ x p. sum_laws.zero_right x p;
   assoc = λ x y z p q r. sum_laws.assoc x y z;
 }
+
+-- the sum of readings
+abbrev pub total : Rule ℕ ℕ
+total = summed (λ reading. reading)
+
+pub total_laws : Laws fits32 total
+total_laws = summed_laws (λ reading. reading)
 
 abbrev pub pair : {S T : Type 0} → S → T → Pair S T
 pair s t = record { first = s; second = t }

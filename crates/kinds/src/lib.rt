@@ -1,10 +1,10 @@
 // Kinds of summary: what a range of elements comes to, and the laws by which its parts may be joined.
 #![tactic(auto)]
 
-ghost use Rattle.std.specs.Prelude.{◌≡◌, List, ◌++◌};
+ghost use Rattle.std.specs.Prelude.{◌≡◌, ℕ, List, ◌++◌};
 ghost use Rattle.kinds.specs.Rules.{Rule, Laws, summary};
 ghost use Rattle.kinds.specs.Sums.{◌⊕◌, SumLaws};
-ghost use Rattle.kinds.specs.Models.{thinnest, fits16, thinnest_laws, total, fits32, total_laws, both, valid_both, both_laws};
+ghost use Rattle.kinds.specs.Models.{thinnest, fits16, thinnest_laws, summed, fits32, summed_laws, both, valid_both, both_laws};
 
 use std::fmt;
 use std::marker::PhantomData;
@@ -52,8 +52,8 @@ pub fn saturating_sum(u: u32, v: u32) -> u32
     u.saturating_add(v)
 }
 
-// The least of readings. No reading comes to 65,535, so that number stands for none.
-pub struct Thinnest {}
+// The least of readings. No reading comes to 65,535, so by the rules of the kind that number stands for none.
+pub struct Thinnest;
 
 impl Kind for Thinnest {
     type Element = u16;
@@ -79,22 +79,34 @@ impl Kind for Thinnest {
     }
 }
 
-// The sum of readings, as far as 32 bits go.
-pub struct Total {}
+// A number that each element has.
+pub trait Measure {
+    type Element: Copy;
 
-impl Kind for Total {
-    type Element = u16;
+    ghost measure: { Self.Element → ℕ };
+
+    fn measure(element: &Self::Element) -> u32
+        ensures { result ≡ measure element.now };
+}
+
+// The sum of a measure, as far as 32 bits go.
+pub struct Sum<M> {
+    measure: PhantomData<M>,
+}
+
+impl<M: Measure> Kind for Sum<M> {
+    type Element = M::Element;
 
     type Summary = u32;
 
-    ghost rule = { total };
+    ghost rule = { summed M.Measure.measure };
 
     ghost valid = { fits32 };
 
-    ghost laws = { total_laws };
+    ghost laws = { summed_laws M.Measure.measure };
 
-    fn of(element: &u16) -> u32 {
-        u32::from(*element)
+    fn of(element: &M::Element) -> u32 {
+        M::measure(element)
     }
 
     fn unit() -> u32 {
@@ -105,6 +117,22 @@ impl Kind for Total {
         saturating_sum(a, b)
     }
 }
+
+// A reading as it stands.
+pub struct Reading;
+
+impl Measure for Reading {
+    type Element = u16;
+
+    ghost measure = { λ reading. reading };
+
+    fn measure(element: &u16) -> u32 {
+        u32::from(*element)
+    }
+}
+
+// The sum of readings.
+pub type Total = Sum<Reading>;
 
 // The summaries of two kinds.
 #[derive(Clone, Copy, PartialEq, Eq, Debug)]

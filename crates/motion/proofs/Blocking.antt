@@ -1,7 +1,10 @@
 -- Where no lawful profile has a start.
-use Rattle.std.proofs.Common.{◌≡◌, ℕ, zero, suc, ◌+◌, ◌<◌, ◌≤◌, true, false, cond, leb, List, length, refl, ap, inl, inr, arith}
+use Rattle.std.proofs.Common.{◌≡◌, ℕ, zero, suc, ◌+◌, ◌<◌, ◌≤◌, true, false, cond, leb, List, length, Result, Ok, Err, refl, sym, ap, subst, inl, inr, arith}
 use Rattle.std.proofs.lemmas.Bool.{leb-true, leb-false, cases_lt}
 use Rattle.motion.specs.declared.blocks.Block.{Block}
+use Rattle.motion.specs.declared.passes.Unplanned.{Unplanned}
+use Rattle.motion.specs.declared.passes.Unplanned.TheVariants.{Blocked, Memory}
+use Rattle.motion.specs.Outcomes.{IfPlanned}
 use Rattle.motion.specs.Profiles.{Starts, FirstBlocked, reverse_at, greatest_start, speeds_of, blocked_from, first_blocked, driven, refused, planned, Right, Prefixes}
 use Rattle.motion.proofs.Lawfulness.{start_under, starts_at, greatest, falls, whole}
 
@@ -31,7 +34,7 @@ module _ (blocks : List Block) (s : ℕ) where
         open_before = λ k h. starts_at blocks k s (found.2 k h);
       }
 
-  pub planned_right : Right blocks s (planned blocks s)
+  planned_right : Right blocks s (planned blocks s)
   planned_right =
       let n = length blocks in
       let r = reverse_at blocks 0 in
@@ -39,6 +42,12 @@ module _ (blocks : List Block) (s : ℕ) where
         | true ↦ λ t. greatest blocks s (starts_at blocks n s (omega (arith, whole blocks, leb-true s r t)))
         | false ↦ λ f. first_blocked_first (λ v. omega (arith, whole blocks, leb-false s r f, start_under blocks n s v))
       ] refl
+
+-- what is planned is right, whatever call tells it
+pub planned_then_right : {V : Type 0} (speeds : V → List ℕ) (result : Result V Unplanned) (blocks : List Block) (s : ℕ) → IfPlanned speeds result (λ o. o ≡ planned blocks s) → IfPlanned speeds result (Right blocks s)
+planned_then_right speeds (Ok v) blocks s e = subst (Right blocks s) (sym e) (planned_right blocks s)
+planned_then_right speeds (Err (Blocked m)) blocks s e = subst (Right blocks s) (sym e) (planned_right blocks s)
+planned_then_right speeds (Err (Memory error)) blocks s e = tt
 
 pub prefixes : (blocks : List Block) → Prefixes blocks
 prefixes blocks = record {

@@ -4,31 +4,22 @@ use lib.Signed.{lt_z}
 use Rattle.std.specs.Int.{int_min, int_max}
 use Rattle.std.proofs.lemmas.Int.{ints, clamps}
 use Rattle.std.proofs.lemmas.Bool.{cases_cond}
-use Rattle.kinds.specs.Rules.{summary}
+use Rattle.kinds.specs.Rules.{joined_on, summary}
 use Rattle.kinds.specs.Sums.{◌⊕◌, top}
 use Rattle.kinds.proofs.Summaries.{summary_cons}
 use Rattle.motion.specs.declared.blocks.Block.{Block}
-use Rattle.motion.specs.declared.extents.Extent.{Extent}
-use Rattle.motion.specs.Extents.{greatest32, least32, signed32, clamped, reach_rule, reach_laws, span_laws}
-use Rattle.motion.specs.Boxes.{coordinate, Between, Fit, ReachIsBox, total_length, SpanIsSum}
+use Rattle.motion.specs.declared.extents.Bounds.{Bounds}
+use Rattle.motion.specs.Extents.{greatest32, least32, signed32, clamped, bounds, bounds_rule, bounds_laws, extent, reach_rule, span_laws}
+use Rattle.motion.specs.Boxes.{coordinate, Between, Box, Fit, ReachIsBox, total_length, SpanIsSum}
 
 clamped_same : (z : ℤ) → signed32 z → clamped z ≡ z
 clamped_same z h = omega (arith, ints, clamps)
 
--- the least or the greatest of a list, from what it is of none
+-- one of the two bounds of a list, from what it is of none
 module _ (pick : ℤ → ℤ → ℤ) (none : ℤ) where
   abbrev picked : List ℤ → ℤ
   picked [] = none
   picked (z ∷ zs) = pick (clamped z) (picked zs)
-
-  -- one side of the reach, along one axis
-  picked_is : (side : Extent → ℤ) (axis : Block → ℤ) → side reach_rule.unit ≡ none → ((b : Block) → side (reach_rule.one b) ≡ clamped (axis b)) → ((a b : Extent) → side (reach_rule.join a b) ≡ pick (side a) (side b)) → (blocks : List Block) → side (summary reach_rule blocks) ≡ picked (map axis blocks)
-  picked_is side axis unit one join [] = unit
-  picked_is side axis unit one join (b ∷ bs) =
-      ap side (summary_cons reach_laws b bs)
-      ∙ join (reach_rule.one b) (summary reach_rule bs)
-      ∙ ap (λ z. pick z (side (summary reach_rule bs))) (one b)
-      ∙ ap (pick (clamped (axis b))) (picked_is side axis unit one join bs)
 
   module _ (R : ℤ → ℤ → Type 0) (left : (a b c : ℤ) → R a c → R (pick a b) c) (right : (a b c : ℤ) → R b c → R (pick a b) c) (same : (a : ℤ) → R a a) where
     picked_all : (zs : List ℤ) → Fit zs → (j : ℕ) → j < length zs → R (picked zs) (coordinate zs j)
@@ -57,28 +48,31 @@ either_least a b = elim (cases_cond (lt_z b a) b a (int_min a b) refl) [ inl e �
 either_greatest : (a b : ℤ) → (int_max a b ≡ a) ⊎ (int_max a b ≡ b)
 either_greatest a b = cases_cond (lt_z b a) a b (int_max a b) refl
 
-between : (zs : List ℤ) → Fit zs → Between zs (picked int_min greatest32 zs) (picked int_max least32 zs)
-between zs fit = record {
+bounds_picked : (zs : List ℤ) → summary bounds_rule zs ≡ bounds (picked int_min greatest32 zs) (picked int_max least32 zs)
+bounds_picked [] = refl
+bounds_picked (z ∷ zs) = summary_cons bounds_laws z zs ∙ ap (bounds_rule.join (bounds_rule.one z)) (bounds_picked zs)
+
+between : (zs : List ℤ) → Fit zs → Between zs (summary bounds_rule zs).least (summary bounds_rule zs).greatest
+between zs fit = subst (λ b. Between zs b.least b.greatest) (sym (bounds_picked zs)) (record {
   above = picked_all int_min greatest32 (λ a b. a ≤ℤ b) (λ a b c h. omega (arith, ints, clamps)) (λ a b c h. omega (arith, ints, clamps)) (λ a. omega (arith, ints)) zs fit;
   below = picked_all int_max least32 (λ a b. b ≤ℤ a) (λ a b c h. omega (arith, ints, clamps)) (λ a b c h. omega (arith, ints, clamps)) (λ a. omega (arith, ints)) zs fit;
   least_met = picked_met int_min greatest32 either_least (λ a h. omega (arith, ints, clamps)) zs fit;
   greatest_met = picked_met int_max least32 either_greatest (λ a h. omega (arith, ints, clamps)) zs fit;
-}
+})
 
--- the two sides of one axis
-side : (zs : List ℤ) (a b : ℤ) → Fit zs → a ≡ picked int_min greatest32 zs → b ≡ picked int_max least32 zs → Between zs a b
-side zs a b fit p q = subst (λ l. Between zs l b) (sym p) (subst (λ g. Between zs (picked int_min greatest32 zs) g) (sym q) (between zs fit))
+-- the reach is the bounds of each axis by itself
+by_axis : (a b c : Bounds) (blocks : List Block) → joined_on reach_rule (extent a b c) blocks ≡ extent (joined_on bounds_rule a (map (λ b. b.x) blocks)) (joined_on bounds_rule b (map (λ b. b.y) blocks)) (joined_on bounds_rule c (map (λ b. b.z) blocks))
+by_axis a b c [] = refl
+by_axis a b c (block ∷ blocks) = by_axis (bounds_rule.join a (bounds_rule.one block.x)) (bounds_rule.join b (bounds_rule.one block.y)) (bounds_rule.join c (bounds_rule.one block.z)) blocks
 
 pub reach_is_box : ReachIsBox
-reach_is_box blocks fit-x fit-y fit-z =
-    let low = picked_is int_min greatest32 in
-    let high = picked_is int_max least32 in
-    let e = summary reach_rule blocks in
-    record {
-      x = side (map (λ b. b.x) blocks) e.least_x e.greatest_x fit-x (low (λ s. s.least_x) (λ b. b.x) refl (λ b. refl) (λ a b. refl) blocks) (high (λ s. s.greatest_x) (λ b. b.x) refl (λ b. refl) (λ a b. refl) blocks);
-      y = side (map (λ b. b.y) blocks) e.least_y e.greatest_y fit-y (low (λ s. s.least_y) (λ b. b.y) refl (λ b. refl) (λ a b. refl) blocks) (high (λ s. s.greatest_y) (λ b. b.y) refl (λ b. refl) (λ a b. refl) blocks);
-      z = side (map (λ b. b.z) blocks) e.least_z e.greatest_z fit-z (low (λ s. s.least_z) (λ b. b.z) refl (λ b. refl) (λ a b. refl) blocks) (high (λ s. s.greatest_z) (λ b. b.z) refl (λ b. refl) (λ a b. refl) blocks);
-    }
+reach_is_box blocks fit_x fit_y fit_z =
+    let none = bounds_rule.unit in
+    subst (Box blocks) (sym (by_axis none none none blocks)) (record {
+      x = between (map (λ b. b.x) blocks) fit_x;
+      y = between (map (λ b. b.y) blocks) fit_y;
+      z = between (map (λ b. b.z) blocks) fit_z;
+    })
 
 stops : (a b : ℕ) → (min a top ⊕ min b top) ≡ min (a + b) top
 stops a b = omega arith

@@ -1,12 +1,10 @@
 -- The blocks along a list of moves, by parts and after edits.
-use Rattle.std.proofs.Common.{◌≡◌, ℕ, zero, suc, ◌<◌, ◌≤◌, List, [], ◌∷◌, ◌++◌, length, get_or, take, drop, set, ℤ, refl, ap, ◌∙◌, arith}
+use Rattle.std.proofs.Common.{◌≡◌, ℕ, zero, suc, ◌<◌, ◌≤◌, List, [], ◌∷◌, length, get_or, take, drop, set, ℤ, refl, ap, ◌∙◌, arith}
 use Rattle.std.specs.List.{insert, remove}
 use Rattle.motion.specs.declared.moves.Move.{Move}
 use Rattle.motion.specs.declared.blocks.Block.{Block}
-use Rattle.motion.specs.Ranges.{ValidPosition, ValidMove}
-use Rattle.motion.specs.Figures.{block_of, target_of, move_of, begun_at, at_percent, Bounded}
+use Rattle.motion.specs.Figures.{block_of, move_of, at_percent}
 use Rattle.motion.specs.Laid.{Entry, laid, overridden, idle, begin_of, block_at, begun_again, Edits}
-use Rattle.motion.proofs.Bounds.{figures_bounded}
 
 pub laid_length : (s : List ℤ) (es : List Entry) → length (laid s es) ≡ length es
 laid_length s [] = refl
@@ -16,10 +14,6 @@ laid_length s (e ∷ es) = ap suc (laid_length e.move.target es)
 abbrev pub end_of : List ℤ → List Entry → List ℤ
 end_of s [] = s
 end_of s (e ∷ es) = end_of e.move.target es
-
-pub laid_append : (s : List ℤ) (xs ys : List Entry) → laid s (xs ++ ys) ≡ laid s xs ++ laid (end_of s xs) ys
-laid_append s [] ys = refl
-laid_append s (x ∷ xs) ys = ap (λ bs. block_of s x.move x.percent ∷ bs) (laid_append x.move.target xs ys)
 
 pub laid_take : (s : List ℤ) (es : List Entry) (j : ℕ) → take j (laid s es) ≡ laid s (take j es)
 laid_take s es zero = refl
@@ -35,13 +29,6 @@ laid_drop s (e ∷ es) (suc j) = laid_drop e.move.target es j
 next_begin : (s : List ℤ) (x : Entry) (bs : List Block) (i : ℕ) (m : Move) (p : ℕ) → block_of (begin_of x.move.target bs i) m p ≡ block_of (begin_of s (block_of s x.move x.percent ∷ bs) (suc i)) m p
 next_begin s x bs zero m p = refl
 next_begin s x bs (suc i) m p = refl
-
-pub laid_get_or : (s : List ℤ) (es : List Entry) (i : ℕ) (e : Entry) → i < length es → get_or (laid s es) i idle ≡ block_at s (laid s es) i (get_or es i e)
-laid_get_or s [] i e h = absurd (omega arith)
-laid_get_or s (x ∷ xs) zero e h = refl
-laid_get_or s (x ∷ xs) (suc i) e h =
-    laid_get_or x.move.target xs i e (omega arith)
-    ∙ next_begin s x (laid x.move.target xs) i (get_or xs i e).move (get_or xs i e).percent
 
 pub laid_restart : (s : List ℤ) (es : List Entry) (p : List ℤ) → laid p es ≡ begun_again (laid s es) 0 p
 laid_restart s [] p = refl
@@ -79,18 +66,6 @@ laid_replace s (x ∷ xs) (suc i) e h =
     let bs = laid x.move.target xs in
     ap (λ cs. b ∷ cs) (laid_replace x.move.target xs i e (omega arith))
     ∙ ap (λ c. b ∷ begun_again (set bs i c) (suc i) e.move.target) (next_begin s x bs i e.move e.percent)
-
--- a position told by a block serves as well as the one that its move names
-pub same_begun : (b : Block) (p : List ℤ) (m : Move) (percent : ℕ) → begun_at b (target_of (block_of p m percent)) ≡ begun_at b m.target
-same_begun b p m percent = refl
-
--- a list of entries in range has blocks whose figures are
-pub laid_bounded : (s : List ℤ) (es : List Entry) (d : Entry) → ValidPosition s → ((i : ℕ) → i < length es → ValidMove (get_or es i d).move × ((get_or es i d).percent ≤ 200)) → (i : ℕ) → i < length es → Bounded (get_or (laid s es) i idle)
-laid_bounded s [] d v w i h = absurd (omega arith)
-laid_bounded s (x ∷ xs) d v w zero h = figures_bounded s x.move x.percent v (w 0 h).0 (w 0 h).1
-laid_bounded s (x ∷ xs) d v w (suc i) h =
-    let first = w 0 (omega arith) in
-    laid_bounded x.move.target xs d first.0.target (λ k l. w (suc k) (omega arith)) i (omega arith)
 
 pub edits : (s : List ℤ) (es : List Entry) → Edits s es
 edits s es = record {

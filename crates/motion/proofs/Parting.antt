@@ -1,5 +1,5 @@
 -- The passes by parts: first by plain recursions over the index, and these then as summaries of ranges.
-use Rattle.std.proofs.Common.{◌≡◌, ℕ, zero, suc, ◌+◌, ◌-◌, ◌<◌, ◌≤◌, min, ◌↔◌, List, [], ◌∷◌, length, get_or, take, drop, sym, refl, ap, ◌∙◌, inl, inr, arith, drop-cons, take-suc}
+use Rattle.std.proofs.Common.{◌≡◌, ℕ, zero, suc, ◌+◌, ◌-◌, ◌<◌, ◌≤◌, min, ◌↔◌, List, [], ◌∷◌, map, length, get_or, take, drop, sym, refl, ap, ◌∙◌, inl, inr, arith, drop-cons, take-suc}
 use Rattle.std.proofs.lemmas.List.{take_rest, get_or-map}
 use Rattle.std.proofs.lemmas.Bool.{cases_lt}
 use Rattle.kinds.specs.Rules.{summary}
@@ -9,11 +9,10 @@ use Rattle.motion.specs.declared.blocks.Block.{Block}
 use Rattle.motion.specs.Figures.{own_cap, corner_cap, rise_of, fall_of}
 use Rattle.motion.specs.Profiles.{own_at, corner_at, rise_at, fall_at, at, Starts, Greatest, reverse_from, reverse_at, forward_from, forward_at, greatest_start, speeds_of, first_blocked}
 use Rattle.motion.specs.Laid.{idle}
-use Rattle.motion.specs.Runs.{through, run_up_rule, run_down_rule, run_up_laws, run_down_laws}
+use Rattle.motion.specs.Runs.{through, through_followed, through_unit, run_up_rule, run_down_rule, run_up_laws, run_down_laws}
 use Rattle.motion.specs.ByParts.{run_up_to, run_down_from, run_down_to, ByParts}
 use Rattle.motion.proofs.Lawfulness.{own_past, start_under, starts_at, at_speeds, greatest, one_greatest, falls, passes}
 use Rattle.motion.proofs.Blocking.{first_blocked_first}
-use Rattle.motion.proofs.Running.{through_unit, up_through, down_through}
 
 -- the greatest speed before block j from what it and the d - 1 blocks after it ask, with block j + d to come
 abbrev down : List Block → ℕ → ℕ → ℕ
@@ -25,11 +24,12 @@ abbrev up : List Block → ℕ → ℕ → ℕ
 up blocks s zero = s
 up blocks s (suc j) = min (min (own_at blocks j) (corner_at blocks j)) (up blocks s j + rise_at blocks j)
 
-down_one : (own corner fall r : ℕ) → own ≤ top → min (min own (corner ⊕ fall)) (r ⊕ fall) ≡ min own (min corner r + fall)
-down_one own corner fall r h = omega arith
+-- one block, by its figures o, c and f
+down_one : (own corner fall o c f r : ℕ) → o ≤ top → own ≡ o → corner ≡ c → fall ≡ f → min (min o (c ⊕ f)) (r ⊕ f) ≡ min own (min corner r + fall)
+down_one own corner fall o c f r h p q s = omega arith
 
-up_one : (own corner rise r : ℕ) → own ≤ top → min (min own corner) (r ⊕ rise) ≡ min (min own corner) (r + rise)
-up_one own corner rise r h = omega arith
+up_one : (own corner rise o c f r : ℕ) → o ≤ top → own ≡ o → corner ≡ c → rise ≡ f → min (min o c) (r ⊕ f) ≡ min (min own corner) (r + rise)
+up_one own corner rise o c f r h p q s = omega arith
 
 module _ (blocks : List Block) where
   down_own : (j d : ℕ) → down blocks j d ≤ own_at blocks j
@@ -63,25 +63,14 @@ module _ (blocks : List Block) where
   abbrev block : ℕ → Block
   block j = get_or blocks j idle
 
+  figure : (f : Block → ℕ) (j : ℕ) → j < length blocks → get_or (map f blocks) j 0 ≡ f (block j)
+  figure f j h = get_or-map f blocks j idle 0 h
+
   down_block : (j r : ℕ) → j < length blocks → through (run_down_rule.one (block j)) r ≡ min (own_at blocks j) (min (corner_at blocks j) r + fall_at blocks j)
-  down_block j r h =
-      let e = get_or-map own_cap blocks j idle 0 h in
-      let f = get_or-map corner_cap blocks j idle 0 h in
-      let g = get_or-map fall_of blocks j idle 0 h in
-      down_one (own_cap (block j)) (corner_cap (block j)) (fall_of (block j)) r (omega arith)
-      ∙ ap (λ x. min x (min (corner_cap (block j)) r + fall_of (block j))) (sym e)
-      ∙ ap (λ x. min (own_at blocks j) (min x r + fall_of (block j))) (sym f)
-      ∙ ap (λ x. min (own_at blocks j) (min (corner_at blocks j) r + x)) (sym g)
+  down_block j r h = down_one _ _ _ _ _ _ r (omega arith) (figure own_cap j h) (figure corner_cap j h) (figure fall_of j h)
 
   up_block : (j r : ℕ) → j < length blocks → through (run_up_rule.one (block j)) r ≡ min (min (own_at blocks j) (corner_at blocks j)) (r + rise_at blocks j)
-  up_block j r h =
-      let e = get_or-map own_cap blocks j idle 0 h in
-      let f = get_or-map corner_cap blocks j idle 0 h in
-      let g = get_or-map rise_of blocks j idle 0 h in
-      up_one (own_cap (block j)) (corner_cap (block j)) (rise_of (block j)) r (omega arith)
-      ∙ ap (λ x. min (min x (corner_cap (block j))) (r + rise_of (block j))) (sym e)
-      ∙ ap (λ x. min (min (own_at blocks j) x) (r + rise_of (block j))) (sym f)
-      ∙ ap (λ x. min (min (own_at blocks j) (corner_at blocks j)) (r + x)) (sym g)
+  up_block j r h = up_one _ _ _ _ _ _ r (omega arith) (figure own_cap j h) (figure corner_cap j h) (figure rise_of j h)
 
   down_is : (d j : ℕ) → j + d ≤ length blocks → through (summary run_down_rule (take d (drop j blocks))) (own_at blocks (j + d)) ≡ down blocks j d
   down_is zero j h = let e : j + 0 ≡ j = omega arith in ap (λ i. through run_down_rule.unit (own_at blocks i)) e ∙ through_unit (own_at blocks j) (own_fits j)
@@ -91,7 +80,7 @@ module _ (blocks : List Block) where
       let xs = take d (drop (suc j) blocks) in
       ap (λ xs. through (summary run_down_rule (take (suc d) xs)) (own_at blocks (j + suc d))) (drop-cons blocks j idle (omega arith))
       ∙ ap (λ x. through x (own_at blocks (j + suc d))) (summary_cons run_down_laws b xs)
-      ∙ down_through (run_down_rule.one b) (summary run_down_rule xs) (own_at blocks (j + suc d))
+      ∙ through_followed (summary run_down_rule xs) (run_down_rule.one b) (own_at blocks (j + suc d))
       ∙ ap (through (run_down_rule.one b)) (ap (λ i. through (summary run_down_rule xs) (own_at blocks i)) e ∙ down_is d (suc j) (omega arith))
       ∙ down_block j (down blocks (suc j) d) (omega arith)
 
@@ -102,7 +91,7 @@ module _ (blocks : List Block) where
       let xs = take j blocks in
       ap (λ ys. through (summary run_up_rule ys) s) (take-suc blocks j idle k)
       ∙ ap (λ x. through x s) (summary_append run_up_laws xs (b ∷ []) ∙ ap (run_up_rule.join (summary run_up_rule xs)) (summary_one run_up_laws b))
-      ∙ up_through (summary run_up_rule xs) (run_up_rule.one b) s
+      ∙ through_followed (summary run_up_rule xs) (run_up_rule.one b) s
       ∙ ap (through (run_up_rule.one b)) (up_is s j h (omega arith))
       ∙ up_block j (up blocks s j) k
 
@@ -138,14 +127,14 @@ module _ (blocks : List Block) where
       let e : 0 + m ≡ m = omega arith in
       reverse_first m ∙ sym (down_is m 0 (omega arith)) ∙ ap (λ i. through (summary run_down_rule (take m blocks)) (own_at blocks i)) e
 
-  pub greatest_by_parts : (s j : ℕ) (v : List ℕ) → Greatest blocks s v → j ≤ length blocks → at v j ≡ min (run_up_to blocks j s) (run_down_from blocks j)
+  greatest_by_parts : (s j : ℕ) (v : List ℕ) → Greatest blocks s v → j ≤ length blocks → at v j ≡ min (run_up_to blocks j s) (run_down_from blocks j)
   greatest_by_parts s j v g h =
       let starts : Starts blocks (length blocks) s = (v, g.lawful) in
       ap (λ w. at w j) (one_greatest blocks s v (speeds_of blocks s) g (greatest blocks s starts))
       ∙ at_speeds blocks (length blocks) s j h
       ∙ speed_by_parts s j (((passes blocks).starts s).0 starts) h
 
-  pub starts_by_parts : (m s : ℕ) → m ≤ length blocks → Starts blocks m s ↔ (s ≤ run_down_to blocks m)
+  starts_by_parts : (m s : ℕ) → m ≤ length blocks → Starts blocks m s ↔ (s ≤ run_down_to blocks m)
   starts_by_parts m s h =
       let cut = prefix_by_parts m h in
       (λ v. omega (arith, cut, start_under blocks m s v), λ l. starts_at blocks m s (omega (arith, cut, l)))

@@ -1,8 +1,10 @@
 -- The steps of the loops that run the passes.
-use Rattle.std.proofs.Common.{◌≡◌, ℕ, zero, suc, ◌+◌, ◌-◌, ◌<◌, ◌≤◌, min, cond, leb, ◌≢◌, List, [], ◌∷◌, ◌++◌, map, length, get_or, take, set, sym, refl, ap, ◌∙◌, inl, inr, add-one, arith}
+use Rattle.std.proofs.Common.{◌≡◌, ℕ, zero, suc, ◌+◌, ◌-◌, ◌<◌, ◌≤◌, min, cond, leb, ◌≢◌, List, [], ◌∷◌, ◌++◌, map, length, get_or, take, set, sym, refl, ap, ◌∙◌, inl, inr, append_assoc, add-one, length-append, arith}
 use Rattle.std.specs.List.{range_with_len}
+use Rattle.std.proofs.Math.Seq.{get_or-append_seam}
 use Rattle.std.proofs.lemmas.List.FromFn.{length-map-range_with_len, get_or-map-range_with_len, map-range_with_len_more, fill_by_all}
-use Rattle.std.proofs.lemmas.List.{get_or-map, length-set, get_or-set_same, get_or-set_other, take_more}
+use Rattle.std.proofs.lemmas.Grind.{get_or-set_at}
+use Rattle.std.proofs.lemmas.List.{get_or-map, length-set, get_or-set_other, take_more}
 use Rattle.std.proofs.lemmas.Bool.{cases_lt, cond-true, cond-false, le-leb, lt-leb}
 use Rattle.kinds.specs.Rules.{summary}
 use Rattle.kinds.specs.Sums.{top, ◌⊕◌}
@@ -12,8 +14,8 @@ use Rattle.motion.specs.declared.runs.Run.{Run}
 use Rattle.motion.specs.Figures.{own_cap, corner_cap, rise_of, fall_of}
 use Rattle.motion.specs.Laid.{idle}
 use Rattle.motion.specs.Runs.{through, run_down_rule, run_down_laws}
-use Rattle.motion.specs.Profiles.{own_at, corner_at, rise_at, fall_at, junction_cap, Caps, at, reverse_from, reverse_at, forward_at, greatest_start, blocked_from}
-use Rattle.motion.proofs.Lawfulness.{own_at_is, caps, reverse_step, reverse_cap}
+use Rattle.motion.specs.Profiles.{own_at, corner_at, junction_cap, Caps, at, reverse_from, reverse_at, forward_at, greatest_start, blocked_from}
+use Rattle.motion.proofs.Lawfulness.{caps, reverse_step, reverse_cap}
 use Rattle.motion.proofs.Parting.{own_fits, prefix_by_parts}
 
 -- a list of speeds that has f at each junction up to n
@@ -34,13 +36,19 @@ abbrev pub Split : (ℕ → ℕ) → (ℕ → ℕ) → ℕ → ℕ → List ℕ 
 Split f g n j v = (length v ≡ suc n) × ((k : ℕ) → k < j → k ≤ n → get_or v k 0 ≡ f k) × ((k : ℕ) → j ≤ k → k ≤ n → get_or v k 0 ≡ g k)
 
 module _ (f g : ℕ → ℕ) (n j y : ℕ) (v : List ℕ) (h : j ≤ n) where
+  other : (k : ℕ) → k ≢ j → get_or (set v j y) k 0 ≡ get_or v k 0
+  other k p = get_or-set_other v j k y 0 p
+
+  written : (k : ℕ) → k ≡ j → length v ≡ suc n → get_or (set v j y) k 0 ≡ y
+  written k p l = get_or-set_at v j k y 0 p (omega arith)
+
   pub split_down : Split f g n (j + 1) v → y ≡ g j → Split f g n j (set v j y)
   split_down s e = (
     length-set v j y ∙ s.0,
-    λ k l m. (let other : k ≢ j = omega arith in get_or-set_other v j k y 0 other) ∙ s.1 k (omega arith) m,
+    λ k l m. other k (omega arith) ∙ s.1 k (omega arith) m,
     λ k l m. elim (cases_lt j k) [
-      | inl i ↦ (let other : k ≢ j = omega arith in get_or-set_other v j k y 0 other) ∙ s.2 k (omega arith) m
-      | inr i ↦ (let same : k ≡ j = omega arith in ap (λ i. get_or (set v j y) i 0) same ∙ get_or-set_same v j y 0 (omega (arith, s.0)) ∙ e ∙ ap g (sym same))
+      | inl i ↦ other k (omega arith) ∙ s.2 k (omega arith) m
+      | inr i ↦ (let same : k ≡ j = omega arith in written k same s.0 ∙ e ∙ ap g (sym same))
     ],
   )
 
@@ -48,14 +56,21 @@ module _ (f g : ℕ → ℕ) (n j y : ℕ) (v : List ℕ) (h : j ≤ n) where
   split_up s e = (
     length-set v j y ∙ s.0,
     λ k l m. elim (cases_lt k j) [
-      | inl i ↦ (let other : k ≢ j = omega arith in get_or-set_other v j k y 0 other) ∙ s.1 k i m
-      | inr i ↦ (let same : k ≡ j = omega arith in ap (λ i. get_or (set v j y) i 0) same ∙ get_or-set_same v j y 0 (omega (arith, s.0)) ∙ e ∙ ap f (sym same))
+      | inl i ↦ other k (omega arith) ∙ s.1 k i m
+      | inr i ↦ (let same : k ≡ j = omega arith in written k same s.0 ∙ e ∙ ap f (sym same))
     ],
-    λ k l m. (let other : k ≢ j = omega arith in get_or-set_other v j k y 0 other) ∙ s.2 k (omega arith) m,
+    λ k l m. other k (omega arith) ∙ s.2 k (omega arith) m,
   )
 
-stops : (x y k : ℕ) → x ≤ top → min x (y ⊕ k) ≡ min x (y + k)
-stops x y k h = omega arith
+-- the last of the blocks that are left
+pub last_left : (blocks left more passed : List Block) (b : Block) → blocks ≡ left ++ passed → left ≡ more ++ b ∷ [] → (blocks ≡ more ++ b ∷ passed) × (length left ≡ length more + 1) × (length more < length blocks) × (b ≡ get_or blocks (length more) idle)
+last_left blocks left more passed b e f =
+    let all : blocks ≡ more ++ b ∷ passed = e ∙ ap (λ xs. xs ++ passed) f ∙ append_assoc more (b ∷ []) passed in (
+      all,
+      omega (arith, ap length f, length-append more (b ∷ [])),
+      omega (arith, ap length all, length-append more (b ∷ passed)),
+      sym (ap (λ xs. get_or xs (length more) idle) all ∙ get_or-append_seam more b passed idle),
+    )
 
 -- what the block before a junction allows there
 abbrev pub limit : List Block → ℕ → ℕ
@@ -95,54 +110,37 @@ module _ (blocks : List Block) where
     abbrev here : Block
     here = get_or blocks i idle
 
-    own_here : own_cap here ≡ own_at blocks i
-    own_here = sym (own_at_is blocks i idle h)
-
-    corner_here : corner_cap here ≡ corner_at blocks i
-    corner_here = sym (get_or-map corner_cap blocks i idle 0 h)
-
-    fall_here : fall_of here ≡ fall_at blocks i
-    fall_here = sym (get_or-map fall_of blocks i idle 0 h)
-
-    rise_here : rise_of here ≡ rise_at blocks i
-    rise_here = sym (get_or-map rise_of blocks i idle 0 h)
+    figure_here : (f : Block → ℕ) → f here ≡ get_or (map f blocks) i 0
+    figure_here f = sym (get_or-map f blocks i idle 0 h)
 
     pub cap_more : (v : List ℕ) (before cap : ℕ) → v ≡ map (junction_cap blocks) (range_with_len 0 i) → before ≡ limit blocks i → cap ≡ min before (own_cap here) → v ++ cap ∷ [] ≡ map (junction_cap blocks) (range_with_len 0 (i + 1))
     cap_more v before cap e l o =
-        let same : cap ≡ junction_cap blocks i = o ∙ ap (λ x. min x (own_cap here)) l ∙ ap (min (limit blocks i)) own_here ∙ limit_cap i in
+        let same : cap ≡ junction_cap blocks i = o ∙ ap (λ x. min x (own_cap here)) l ∙ ap (min (limit blocks i)) (figure_here own_cap) ∙ limit_cap i in
         ap (λ w. w ++ cap ∷ []) e
         ∙ ap (λ x. map (junction_cap blocks) (range_with_len 0 i) ++ x ∷ []) same
         ∙ sym (map-range_with_len_more (junction_cap blocks) 0 i i (omega arith))
 
     pub limit_more : (own corner : ℕ) → own ≡ own_cap here → corner ≡ corner_cap here → min own corner ≡ limit blocks (i + 1)
-    limit_more own corner o q = rw add-one (ap (λ x. min x corner) (o ∙ own_here) ∙ ap (min (own_at blocks i)) (q ∙ corner_here))
+    limit_more own corner o q = rw add-one (ap (λ x. min x corner) (o ∙ figure_here own_cap) ∙ ap (min (own_at blocks i)) (q ∙ figure_here corner_cap))
 
     -- a sum under a cap never stops short
     pub reverse_next : (x y fall : ℕ) → x ≡ junction_cap blocks i → y ≡ reverse_at blocks (i + 1) → fall ≡ fall_of here → min x (y ⊕ fall) ≡ reverse_at blocks i
     reverse_next x y fall p q f =
-        let cap : x ≤ top = omega (arith, p, cap_fits i) in
         let after : y ≡ reverse_from blocks (suc i) (length blocks - suc i) = rw add-one at q in
-        let sum = f ∙ fall_here in
-        stops x y fall cap
-        ∙ ap (λ c. min c (y + fall)) p
-        ∙ ap (λ r. min (junction_cap blocks i) (r + fall)) after
-        ∙ ap (λ k. min (junction_cap blocks i) (reverse_from blocks (suc i) (length blocks - suc i) + k)) sum
-        ∙ sym (reverse_step blocks i (length blocks) h)
+        let change = f ∙ figure_here fall_of in
+        omega (arith, p, cap_fits i, after, change, reverse_step blocks i (length blocks) h)
 
     pub forward_next : (s x y rise : ℕ) → x ≡ reverse_at blocks (i + 1) → y ≡ forward_at blocks s i → rise ≡ rise_of here → min x (y ⊕ rise) ≡ forward_at blocks s (i + 1)
     forward_next s x y rise p q f =
-        let bound : x ≤ top = omega (arith, p, reverse_cap blocks (i + 1) (length blocks - (i + 1)), cap_fits (i + 1)) in
+        let bound = reverse_cap blocks (i + 1) (length blocks - (i + 1)) in
         let after : x ≡ reverse_from blocks (suc i) (length blocks - suc i) = rw add-one at p in
-        let sum = f ∙ rise_here in
-        stops x y rise bound
-        ∙ ap (λ c. min c (y + rise)) after
-        ∙ ap (λ v. min (reverse_from blocks (suc i) (length blocks - suc i)) (v + rise)) q
-        ∙ ap (λ k. min (reverse_from blocks (suc i) (length blocks - suc i)) (forward_at blocks s i + k)) sum
-        ∙ rw add-one
+        let change = f ∙ figure_here rise_of in
+        let next : min x (y ⊕ rise) ≡ forward_at blocks s (suc i) = omega (arith, p, bound, cap_fits (i + 1), after, q, change) in
+        next ∙ rw add-one
 
     module _ (s own : ℕ) (r : Run) (run : r ≡ summary run_down_rule (take i blocks)) (o : own ≡ own_cap here) where
       tested : through r own ≡ greatest_start blocks i
-      tested = ap (λ x. through x own) run ∙ ap (through (summary run_down_rule (take i blocks))) (o ∙ own_here) ∙ sym (prefix_by_parts blocks i (omega arith))
+      tested = ap (λ x. through x own) run ∙ ap (through (summary run_down_rule (take i blocks))) (o ∙ figure_here own_cap) ∙ sym (prefix_by_parts blocks i (omega arith))
 
       more : length blocks - i ≡ suc (length blocks - (i + 1))
       more = omega arith

@@ -17,9 +17,9 @@ pub record Between (zs : List ℤ) (least greatest : ℤ) : Type 0 where
   pub greatest_met : 0 < length zs → (j : ℕ) × (j < length zs) × (coordinate zs j ≡ greatest)
 
 pub record Box (blocks : List Block) (e : Extent) : Type 0 where
-  pub x : Between (map (λ b. b.x) blocks) e.least_x e.greatest_x
-  pub y : Between (map (λ b. b.y) blocks) e.least_y e.greatest_y
-  pub z : Between (map (λ b. b.z) blocks) e.least_z e.greatest_z
+  pub x : Between (map (λ b. b.x) blocks) e.x.least e.x.greatest
+  pub y : Between (map (λ b. b.y) blocks) e.y.least e.y.greatest
+  pub z : Between (map (λ b. b.z) blocks) e.z.least e.z.greatest
 
 -- numbers of the code, which fit 32 bits
 abbrev pub Fit : List ℤ → Type 0

@@ -9,3 +9,4 @@ pub mod Outcomes
 pub mod Laid
 pub mod Worked
 pub mod Boxes
+pub mod Texts

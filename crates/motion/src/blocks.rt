@@ -1,8 +1,9 @@
 // Blocks: moves with where they begin, their override and their length, and the figures that planning needs.
-ghost use Rattle.std.specs.Prelude.{◌≡◌, ◌+◌, ◌*◌, ◌<◌, ◌≤◌};
+ghost use Rattle.std.specs.Prelude.{◌≡◌, ◌+◌, ◌*◌, ◌<◌, ◌≤◌, min};
+ghost use Rattle.kinds.specs.Sums.{top};
 ghost use Rattle.motion.specs.Ranges.{ValidPosition};
 ghost use Rattle.motion.specs.Roots.{WholeRoot};
-ghost use Rattle.motion.specs.Figures.{square_of, apart, length_of, block_of, begun_at, at_percent, target_of, rise_of, fall_of, feed_of, own_cap, corner_cap};
+ghost use Rattle.motion.specs.Figures.{square_of, apart, length_of, block_of, begun_at, at_percent, target_of, change_of, rise_of, fall_of, feed_of, own_cap, corner_cap};
 
 use crate::moves::Move;
 
@@ -43,7 +44,7 @@ fn near_root(n: u64) -> u32 {
     } else {
         third
     };
-    (root & 0xffff_ffff) as u32
+    u32::try_from(root).unwrap_or(u32::MAX)
 }
 
 // The greatest whole number whose square is at most n. A search by halves, for where the number nearby is not it, takes
@@ -70,23 +71,31 @@ pub fn length_between(p: [i32; 3], q: [i32; 3]) -> u32
     whole_root(square_between(p, q))
 }
 
+// As far as 32 bits go.
+fn squared(speed: u32) -> u32
+    ensures { result ≡ min (speed * speed) top }
+{
+    speed.saturating_mul(speed)
+}
+
 impl Block {
     pub fn new(begin: [i32; 3], m: Move, percent: u8) -> Block
         ensures { result ≡ block_of begin m percent }
     {
-        let target = m.target;
+        let [begin_x, begin_y, begin_z] = begin;
+        let [x, y, z] = m.target;
         Block {
-            begin_x: begin[0],
-            begin_y: begin[1],
-            begin_z: begin[2],
-            x: target[0],
-            y: target[1],
-            z: target[2],
+            begin_x,
+            begin_y,
+            begin_z,
+            x,
+            y,
+            z,
             acceleration: m.acceleration,
             feed: m.feed,
             corner: m.corner,
             percent,
-            length: length_between(begin, target),
+            length: length_between(begin, m.target),
         }
     }
 
@@ -94,10 +103,11 @@ impl Block {
     pub fn begun_at(self, begin: [i32; 3]) -> Block
         ensures { result ≡ begun_at self begin }
     {
+        let [begin_x, begin_y, begin_z] = begin;
         Block {
-            begin_x: begin[0],
-            begin_y: begin[1],
-            begin_z: begin[2],
+            begin_x,
+            begin_y,
+            begin_z,
             length: length_between(begin, self.target()),
             ..self
         }
@@ -122,7 +132,7 @@ impl Block {
         self.change()
     }
 
-    // What the squared speed may fall by along the block.
+    // What the squared speed may fall by along the block: the rules and the contracts name it apart from the rise.
     pub fn fall(self) -> u32
         ensures { result ≡ fall_of self }
     {
@@ -130,7 +140,7 @@ impl Block {
     }
 
     fn change(self) -> u32
-        ensures { result ≡ rise_of self }
+        ensures { result ≡ change_of self }
     {
         (2 * u32::from(self.acceleration)).saturating_mul(self.length)
     }
@@ -146,15 +156,13 @@ impl Block {
     pub fn own_cap(self) -> u32
         ensures { result ≡ own_cap self }
     {
-        let speed = self.overridden_feed();
-        speed.saturating_mul(speed)
+        squared(self.overridden_feed())
     }
 
     // The greatest squared speed at the corner at its end.
     pub fn corner_cap(self) -> u32
         ensures { result ≡ corner_cap self }
     {
-        let speed = u32::from(self.corner);
-        speed.saturating_mul(speed)
+        squared(u32::from(self.corner))
     }
 }

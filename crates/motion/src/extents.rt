@@ -1,40 +1,76 @@
 // The box of the targets of blocks, and their length.
-ghost use Rattle.kinds.specs.Models.{fits32};
-ghost use Rattle.motion.specs.Extents.{reach_rule, fits_extent, reach_laws, span_rule, span_laws};
+ghost use Rattle.std.specs.Prelude.{◌≡◌, Some};
+ghost use Rattle.motion.specs.Extents.{bounds_rule, reach_rule, fits_extent, reach_laws};
+ghost use Rattle.motion.specs.Texts.{bounds_text, extent_text};
 
 use crate::blocks::Block;
-use kinds::{Kind, saturating_sum};
+use kinds::{Kind, Measure, Sum};
 use std::fmt;
 
-// The least and the greatest target coordinate of each axis; where there is no block, the least is above the greatest.
+// The least and the greatest of some coordinates; of none, by the rules of the kind, the least is above the greatest.
 #[derive(Clone, Copy, PartialEq, Eq, Debug)]
-pub struct Extent {
-    pub least_x: i32,
-    pub greatest_x: i32,
-    pub least_y: i32,
-    pub greatest_y: i32,
-    pub least_z: i32,
-    pub greatest_z: i32,
+pub struct Bounds {
+    pub least: i32,
+    pub greatest: i32,
 }
 
-impl fmt::Display for Extent {
-    fn fmt<W: fmt::Write>(&self, f: &mut fmt::Formatter<W>) -> fmt::Result {
-        let Extent {
-            least_x,
-            greatest_x,
-            least_y,
-            greatest_y,
-            least_z,
-            greatest_z,
-        } = *self;
-        write!(
-            f,
-            "x {least_x} to {greatest_x}, y {least_y} to {greatest_y}, z {least_z} to {greatest_z}"
-        )
+impl Bounds {
+    pub fn none() -> Bounds
+        ensures { result ≡ bounds_rule.unit }
+    {
+        Bounds {
+            least: i32::MAX,
+            greatest: i32::MIN,
+        }
+    }
+
+    pub fn at(coordinate: i32) -> Bounds
+        ensures { result ≡ bounds_rule.one coordinate }
+    {
+        Bounds {
+            least: coordinate,
+            greatest: coordinate,
+        }
+    }
+
+    pub fn join(self, other: Bounds) -> Bounds
+        ensures { result ≡ bounds_rule.join self other }
+    {
+        Bounds {
+            least: self.least.min(other.least),
+            greatest: self.greatest.max(other.greatest),
+        }
     }
 }
 
-pub struct Reach {}
+impl fmt::Display for Bounds {
+    ghost output = { λ bounds. Some (bounds_text bounds) };
+
+    fn fmt<W: fmt::Write>(&self, f: &mut fmt::Formatter<W>) -> fmt::Result {
+        let Bounds { least, greatest } = *self;
+        write!(f, "{least} to {greatest}")
+    }
+}
+
+// The bounds of the target coordinates along each axis.
+#[derive(Clone, Copy, PartialEq, Eq, Debug)]
+pub struct Extent {
+    pub x: Bounds,
+    pub y: Bounds,
+    pub z: Bounds,
+}
+
+impl fmt::Display for Extent {
+    ghost output = { λ extent. Some (extent_text extent) };
+
+    fn fmt<W: fmt::Write>(&self, f: &mut fmt::Formatter<W>) -> fmt::Result {
+        let Extent { x, y, z } = *self;
+        write!(f, "x {x}, y {y}, z {z}")
+    }
+}
+
+// The box of the targets of blocks.
+pub struct Reach;
 
 impl Kind for Reach {
     type Element = Block;
@@ -49,60 +85,41 @@ impl Kind for Reach {
 
     fn of(element: &Block) -> Extent {
         Extent {
-            least_x: element.x,
-            greatest_x: element.x,
-            least_y: element.y,
-            greatest_y: element.y,
-            least_z: element.z,
-            greatest_z: element.z,
+            x: Bounds::at(element.x),
+            y: Bounds::at(element.y),
+            z: Bounds::at(element.z),
         }
     }
 
     fn unit() -> Extent {
         Extent {
-            least_x: i32::MAX,
-            greatest_x: i32::MIN,
-            least_y: i32::MAX,
-            greatest_y: i32::MIN,
-            least_z: i32::MAX,
-            greatest_z: i32::MIN,
+            x: Bounds::none(),
+            y: Bounds::none(),
+            z: Bounds::none(),
         }
     }
 
     fn join(a: Extent, b: Extent) -> Extent {
         Extent {
-            least_x: a.least_x.min(b.least_x),
-            greatest_x: a.greatest_x.max(b.greatest_x),
-            least_y: a.least_y.min(b.least_y),
-            greatest_y: a.greatest_y.max(b.greatest_y),
-            least_z: a.least_z.min(b.least_z),
-            greatest_z: a.greatest_z.max(b.greatest_z),
+            x: a.x.join(b.x),
+            y: a.y.join(b.y),
+            z: a.z.join(b.z),
         }
     }
 }
 
-pub struct Span {}
+// The length of a block.
+pub struct Length;
 
-impl Kind for Span {
+impl Measure for Length {
     type Element = Block;
 
-    type Summary = u32;
+    ghost measure = { λ block. block.length };
 
-    ghost rule = { span_rule };
-
-    ghost valid = { fits32 };
-
-    ghost laws = { span_laws };
-
-    fn of(element: &Block) -> u32 {
+    fn measure(element: &Block) -> u32 {
         element.length
     }
-
-    fn unit() -> u32 {
-        0
-    }
-
-    fn join(a: u32, b: u32) -> u32 {
-        saturating_sum(a, b)
-    }
 }
+
+// The length of blocks, as far as 32 bits go.
+pub type Span = Sum<Length>;

@@ -9,6 +9,6 @@ pub mod runs;
 pub mod theorems;
 
 pub use self::blocks::Block;
-pub use self::extents::{Extent, Reach, Span};
+pub use self::extents::{Bounds, Extent, Length, Reach, Span};
 pub use self::moves::Move;
 pub use self::runs::{Run, RunDown, RunUp};

@@ -17,6 +17,7 @@ const MOST_FEED: u16 = 5_000;
 const MOST_CORNER: u16 = 10_000;
 
 // The target is x, y, z; acceleration is in mm/s², feed and corner in mm/s.
+// A position is an array of three numbers by value, by a rule of the project.
 #[derive(Clone, Copy, PartialEq, Eq, Debug)]
 pub struct Move {
     pub target: [i32; 3],
@@ -28,9 +29,8 @@ pub struct Move {
 fn position_fits(p: [i32; 3]) -> bool
     ensures { result ≡ position_fits p }
 {
-    p[0].unsigned_abs() <= MOST_XY
-        && p[1].unsigned_abs() <= MOST_XY
-        && p[2].unsigned_abs() <= MOST_Z
+    let [x, y, z] = p;
+    x.unsigned_abs() <= MOST_XY && y.unsigned_abs() <= MOST_XY && z.unsigned_abs() <= MOST_Z
 }
 
 pub fn check_position(p: [i32; 3]) -> Result<(), Refusal>
@@ -45,36 +45,45 @@ pub fn check_position(p: [i32; 3]) -> Result<(), Refusal>
 }
 
 impl Move {
+    // A move that goes nowhere, for rows and slots before their first use.
+    pub const IDLE: Move = Move {
+        target: [0, 0, 0],
+        acceleration: 1,
+        feed: 1,
+        corner: 0,
+    };
+
     pub fn check(self) -> Result<(), Refusal>
         ensures value { result ≡ check_move self }
         ensures valid { result ≡ Ok tt ↔ ValidMove self }
     {
-        if !position_fits(self.target) {
-            Err(Refusal::Coordinate)
-        } else if !self.rates_fit() {
-            Err(Refusal::Rate)
-        } else {
+        check_position(self.target)?;
+        if self.rates_fit() {
             Ok(())
+        } else {
+            Err(Refusal::Rate)
         }
     }
 
     fn rates_fit(self) -> bool
         ensures { result ≡ rates_fit self }
     {
-        1 <= self.acceleration
-            && self.acceleration <= MOST_ACCELERATION
-            && 1 <= self.feed
-            && self.feed <= MOST_FEED
+        (1..=MOST_ACCELERATION).contains(&self.acceleration)
+            && (1..=MOST_FEED).contains(&self.feed)
             && self.corner <= MOST_CORNER
     }
 }
 
+// A position is printed axis by axis: an array has no `Display` of ours.
 impl fmt::Display for Move {
     fn fmt<W: fmt::Write>(&self, f: &mut fmt::Formatter<W>) -> fmt::Result {
-        let [x, y, z] = self.target;
-        let acceleration = self.acceleration;
-        let feed = self.feed;
-        let corner = self.corner;
+        let Move {
+            target,
+            acceleration,
+            feed,
+            corner,
+        } = *self;
+        let [x, y, z] = target;
         write!(f, "({x}, {y}, {z}) a {acceleration} f {feed} r {corner}")
     }
 }

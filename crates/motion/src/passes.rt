@@ -1,23 +1,51 @@
 // The two passes over a list of blocks: caps of junctions, then back from the end, then on from the start.
-ghost use Rattle.std.specs.Prelude.{◌≡◌, suc, min, T, map, length, IfOk, nat_le};
+ghost use Rattle.std.specs.Prelude.{◌≡◌, suc, min, map, length, IfOk, vec_items};
 ghost use Rattle.std.specs.List.{range_with_len};
 ghost use Rattle.kinds.specs.Sums.{◌⊕◌};
 ghost use Rattle.motion.specs.Figures.{own_cap};
 ghost use Rattle.motion.specs.Profiles.{junction_caps, Caps, at, reverse_at, speeds_of, first_blocked, planned, Right, Passes, Prefixes};
-ghost use Rattle.motion.specs.Outcomes.{outcome_of};
+ghost use Rattle.motion.specs.declared.passes.Unplanned.TheVariants.{Memory};
+ghost use Rattle.motion.specs.Outcomes.{IfPlanned};
+ghost use Rattle.motion.specs.Texts.{unplanned_text};
 
 use crate::blocks::Block;
-use crate::runs::RunDown;
-use kinds::{Kind, saturating_sum};
+use crate::runs::{Run, RunDown};
+use kinds::Kind;
 use std::alloc::{AllocError, Global};
+use std::error::Error;
+use std::fmt;
 
-// What planning comes to.
-#[derive(Drop)]
-pub enum Profile {
-    // The squared speed at each junction.
-    Speeds(Vec<u32>),
+// Why there are no speeds.
+#[derive(Clone, Copy, PartialEq, Eq, Debug)]
+pub enum Unplanned {
     // There is no lawful profile: the least junction up to which there is none.
     Blocked(usize),
+    // No memory was left for the speeds.
+    Memory(AllocError),
+}
+
+impl fmt::Display for Unplanned {
+    ghost output = { unplanned_text };
+
+    fn fmt<W: fmt::Write>(&self, f: &mut fmt::Formatter<W>) -> fmt::Result {
+        match self {
+            Unplanned::Blocked(junction) => write!(
+                f,
+                "no lawful profile up to junction {junction}"
+            ),
+            Unplanned::Memory(error) => write!(f, "{error}"),
+        }
+    }
+}
+
+impl Error for Unplanned {}
+
+impl From<AllocError> for Unplanned {
+    ghost from_gives = { λ error unplanned. unplanned ≡ Memory error };
+
+    fn from(error: AllocError) -> Unplanned {
+        Unplanned::Memory(error)
+    }
 }
 
 // The cap of a junction, from what the block before it allows there and the block after it.
@@ -31,7 +59,7 @@ fn junction_cap(before: u32, next: &Block) -> u32
 fn next_speed(bound: u32, speed: u32, change: u32) -> u32
     ensures { result ≡ min bound (speed ⊕ change) }
 {
-    bound.min(saturating_sum(speed, change))
+    Run { cap: bound, change }.through(speed)
 }
 
 // The cap of each junction, of which there is one more than of blocks.
@@ -54,8 +82,10 @@ fn reverse_pass(speeds: &mut [u32], blocks: &[Block])
     requires { speeds.old ≡ junction_caps blocks.now }
     ensures { speeds.new ≡ map (reverse_at blocks.now) (range_with_len 0 (suc (length blocks.now))) }
 {
-    for j in (0..blocks.len()).rev() {
-        speeds[j] = next_speed(speeds[j], speeds[j + 1], blocks[j].fall());
+    // Written by index: tried with `iter_mut().zip(blocks)`, and the proof does not close, since no contract of the library
+    // says what such an adapter leaves in the elements.
+    for (j, block) in blocks.iter().enumerate().rev() {
+        speeds[j] = next_speed(speeds[j], speeds[j + 1], block.fall());
     }
 }
 
@@ -65,8 +95,9 @@ fn forward_pass(speeds: &mut [u32], blocks: &[Block], start: u32)
     ensures { speeds.new ≡ speeds_of blocks.now start }
 {
     speeds[0] = start;
-    for j in 0..blocks.len() {
-        speeds[j + 1] = next_speed(speeds[j + 1], speeds[j], blocks[j].rise());
+    // By index, for the reason in the reverse pass.
+    for (j, block) in blocks.iter().enumerate() {
+        speeds[j + 1] = next_speed(speeds[j + 1], speeds[j], block.rise());
     }
 }
 
@@ -84,31 +115,29 @@ fn first_blocked(blocks: &[Block], start: u32) -> usize
     blocks.len()
 }
 
-// Both passes, over the caps of the junctions: tells whether there is a lawful profile, and leaves the greatest.
-fn both_passes(speeds: &mut [u32], blocks: &[Block], start: u32) -> bool
+// Both passes, from the caps of the junctions to the speeds. The speeds go beside the blocks, since there is one junction more
+// than there are blocks.
+fn both_passes(speeds: &mut [u32], blocks: &[Block], start: u32) -> Result<(), Unplanned>
     requires { speeds.old ≡ junction_caps blocks.now }
-    ensures exists { result ≡ nat_le start (reverse_at blocks.now 0) }
-    ensures speeds { T result → speeds.new ≡ speeds_of blocks.now start }
+    ensures { IfPlanned (λ _. speeds.new) result (λ outcome. outcome ≡ planned blocks.now start) }
 {
     reverse_pass(speeds, blocks);
     if start > speeds[0] {
-        return false;
+        return Err(Unplanned::Blocked(first_blocked(blocks, start)));
     }
     forward_pass(speeds, blocks, start);
-    true
+    Ok(())
 }
 
-// The greatest lawful profile with a start, by the reverse pass and the forward pass.
-pub fn plan_speeds(heap: Global, blocks: &[Block], start: u32) -> Result<Profile, AllocError>
-    ensures value { IfOk result (λ p. outcome_of p ≡ planned blocks.now start) }
-    ensures right { IfOk result (λ p. Right blocks.now start (outcome_of p)) }
+// The greatest lawful profile with a start, by the reverse pass and the forward pass: the squared speed at each junction.
+#[tactic(auto, using(crate::proofs::Lawfulness::passes, crate::proofs::Blocking::prefixes, crate::proofs::Blocking::planned_then_right))]
+pub fn plan_speeds(heap: Global, blocks: &[Block], start: u32) -> Result<Vec<u32>, Unplanned>
+    ensures value { IfPlanned vec_items result (λ outcome. outcome ≡ planned blocks.now start) }
+    ensures right { IfPlanned vec_items result (Right blocks.now start) }
     ensures passes { Passes blocks.now }
     ensures prefixes { Prefixes blocks.now }
 {
     let mut speeds = junction_caps(heap, blocks)?;
-    if both_passes(&mut speeds, blocks, start) {
-        Ok(Profile::Speeds(speeds))
-    } else {
-        Ok(Profile::Blocked(first_blocked(blocks, start)))
-    }
+    both_passes(&mut speeds, blocks, start)?;
+    Ok(speeds)
 }

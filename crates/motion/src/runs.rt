@@ -1,6 +1,6 @@
 // Run-up and run-down, the two kinds of summary from which speeds are told.
 ghost use Rattle.std.specs.Prelude.{◌≡◌};
-ghost use Rattle.motion.specs.Runs.{through, fits_run, run_up_rule, run_up_laws, run_down_rule, run_down_laws};
+ghost use Rattle.motion.specs.Runs.{no_run, through, followed, fits_run, run_up_rule, run_up_laws, run_down_rule, run_down_laws};
 
 use crate::blocks::Block;
 use kinds::{Kind, saturating_sum};
@@ -13,16 +13,36 @@ pub struct Run {
 }
 
 impl Run {
+    // Of no blocks: each speed passes as it is.
+    pub fn none() -> Run
+        ensures { result ≡ no_run }
+    {
+        Run {
+            cap: u32::MAX,
+            change: 0,
+        }
+    }
+
     // The greatest speed at the other end of the range, for a speed at this one.
     pub fn through(self, speed: u32) -> u32
         ensures { result ≡ through self speed }
     {
         self.cap.min(saturating_sum(speed, self.change))
     }
+
+    // The run of one range and then of another, which begins where the speed leaves the first.
+    pub fn then(self, next: Run) -> Run
+        ensures { result ≡ followed self next }
+    {
+        Run {
+            cap: next.through(self.cap),
+            change: saturating_sum(self.change, next.change),
+        }
+    }
 }
 
 // From the start of a range to its end.
-pub struct RunUp {}
+pub struct RunUp;
 
 impl Kind for RunUp {
     type Element = Block;
@@ -43,22 +63,16 @@ impl Kind for RunUp {
     }
 
     fn unit() -> Run {
-        Run {
-            cap: u32::MAX,
-            change: 0,
-        }
+        Run::none()
     }
 
     fn join(a: Run, b: Run) -> Run {
-        Run {
-            cap: b.cap.min(saturating_sum(a.cap, b.change)),
-            change: saturating_sum(a.change, b.change),
-        }
+        a.then(b)
     }
 }
 
 // From the end of a range to its start.
-pub struct RunDown {}
+pub struct RunDown;
 
 impl Kind for RunDown {
     type Element = Block;
@@ -82,16 +96,10 @@ impl Kind for RunDown {
     }
 
     fn unit() -> Run {
-        Run {
-            cap: u32::MAX,
-            change: 0,
-        }
+        Run::none()
     }
 
     fn join(a: Run, b: Run) -> Run {
-        Run {
-            cap: a.cap.min(saturating_sum(b.cap, a.change)),
-            change: saturating_sum(a.change, b.change),
-        }
+        b.then(a)
     }
 }

@@ -8,43 +8,34 @@ ghost use Rattle.motion.specs.Laid.{Entry, Edits};
 ghost use Rattle.motion.specs.Worked.{Worked};
 
 // The figures of a block whose move is in range.
-pub fn figures_bounded() -> u8
+pub fn figures_bounded()
     ensures { FiguresBounded }
-{
-    0
-}
+{}
 
 // The reach of blocks is the box of their targets.
-pub fn reach_is_box() -> u8
+pub fn reach_is_box()
     ensures { ReachIsBox }
-{
-    0
-}
+{}
 
 // The span of blocks is the sum of their lengths, as far as 32 bits go.
-pub fn span_is_sum() -> u8
+#[tactic(auto, using(crate::proofs::Boxing::span_is_sum))]
+pub fn span_is_sum()
     ensures { SpanIsSum }
-{
-    0
-}
+{}
 
 // Speeds and starts come from the summaries of ranges.
-pub fn passes_by_parts() -> u8
+pub fn passes_by_parts()
     ensures { (blocks : List Block) → ByParts blocks }
-{
-    0
-}
+{}
 
 // An edit of the moves changes one block, and the one after it begins again.
-pub fn edits_by_parts() -> u8
+#[tactic(auto, using(crate::proofs::Laying::edits))]
+pub fn edits_by_parts()
     ensures { (start : List ℤ) (entries : List Entry) → Edits start entries }
-{
-    0
-}
+{}
 
 // A plan of three blocks by numbers.
-pub fn worked_examples() -> u8
+#[tactic(auto, unfolding(crate::specs::Roots::root, kinds::specs::Balance::fewest))]
+pub fn worked_examples()
     ensures { Worked }
-{
-    0
-}
+{}

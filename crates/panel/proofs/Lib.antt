@@ -1,1 +1,1 @@
-mod Counts
+mod Rows

@@ -12,4 +12,4 @@ use Rattle.rows.specs.Layouts.{Stands}
 pub record Standing (blocks : List Block) (depth : ℕ) : Type 0 where
   pub rows : List (Row Block (Pair (Pair Run Run) (Pair Extent ℕ)))
   pub top : Option ℕ
-  pub stands : Stands plan_rule rows top blocks depth (Unit {0})
+  pub stands : Stands plan_rule rows top blocks depth

@@ -10,9 +10,8 @@ ghost use Rattle.plan.specs.Models.{opened, blocks_of};
 use motion::Block;
 use plan::Plan;
 use plan::calls::{Answer, Call};
-use plan::summaries::{PlanKind, Summary};
+use plan::summaries::{Blocks, PlanKind, Summary};
 use rows::Row;
-use sequences::Sequence;
 use sequences::deep::Deep;
 use std::alloc::{AllocError, Global};
 use tree::Tree;
@@ -25,15 +24,14 @@ pub struct Told {
 }
 
 // Opens a plan over any empty sequence that is a tree, and makes the calls.
-fn run_deep<S: Sequence<Element = Block, Summary = Summary, Kind = PlanKind> + Deep + Drop>(
+fn run_deep<S: Blocks + Deep + Drop>(
     heap: Global,
     blocks: S,
     calls: &[Call],
 ) -> Result<Told, AllocError>
-    requires empty { S.Sequence.list blocks ≡ [] }
-    requires told { S.Sequence.told blocks }
+    requires { S.Sequence.list blocks ≡ [] }
     ensures whole { IfOk result (λ t. Whole (opened (S.Sequence.room blocks)) calls.now t) }
-    ensures stands { IfOk result (λ t. ((q : S) × S.Deep.stands q × S.Sequence.told q × (S.Sequence.list q ≡ blocks_of (after_all (opened (S.Sequence.room blocks)) calls.now)) × (S.Deep.levels q ≡ t.depth))) }
+    ensures stands { IfOk result (λ t. ((q : S) × S.Deep.stands q × (S.Sequence.list q ≡ blocks_of (after_all (opened (S.Sequence.room blocks)) calls.now)) × (S.Deep.levels q ≡ t.depth))) }
 {
     let mut plan = Plan::open(blocks);
     let answers = plan.run(heap, calls)?;

@@ -1,7 +1,8 @@
 -- What a plan tells of a range: the box of its targets and the sum of its lengths.
-use Rattle.std.proofs.Common.{◌≡◌, ℕ, zero, suc, ◌-◌, ◌<◌, ◌≤◌, List, [], ◌∷◌, map, length, take, drop, ℤ, Ok, sym, ap, ◌∙◌, subst, arith}
+use Rattle.std.proofs.Common.{◌≡◌, ℕ, zero, suc, ◌-◌, ◌<◌, ◌≤◌, List, [], ◌∷◌, map, length, take, drop, ℤ, Some, Ok, sym, refl, ap, ◌∙◌, subst, arith}
 use Rattle.std.specs.List.{between}
 use Rattle.std.proofs.lemmas.List.Edits.{between_none, length-between}
+use Rattle.std.proofs.lemmas.List.Elements.{All-head, All-tail}
 use Rattle.std.proofs.lemmas.Int.{ints}
 use Rattle.kinds.specs.Rules.{summary}
 use Rattle.sequences.proofs.Rulings.{range_there, range_nowhere}
@@ -17,7 +18,6 @@ use Rattle.plan.specs.Keeping.{ValidEntry, AllValid}
 use Rattle.plan.specs.Models.{Model, blocks_of, no_range, box_of, reach_told, span_told}
 use Rattle.plan.specs.Promises.{ReachRight, SpanRight}
 use Rattle.plan.proofs.Accepted.{all_between}
-use Rattle.plan.proofs.Asking.{some_box}
 
 -- accepted coordinates fit 32 bits
 within_signed : (z : ℤ) (n : ℕ) → n ≤ 100000 → Within z n → signed32 z
@@ -26,8 +26,8 @@ within_signed z n small w = (omega (arith, ints, w.low), omega (arith, ints, w.h
 -- what holds of the block of every accepted move holds of each block along such moves
 fits : (f : Block → ℤ) → ((s : List ℤ) (e : Entry) → ValidEntry e → signed32 (f (block_of s e.move e.percent))) → (s : List ℤ) (es : List Entry) → AllValid es → Fit (map f (laid s es))
 fits f one s [] v j h = absurd (omega arith)
-fits f one s (e ∷ es) (v, vs) zero h = one s e v
-fits f one s (e ∷ es) (v, vs) (suc j) h = fits f one e.move.target es vs j (omega arith)
+fits f one s (e ∷ es) v zero h = one s e (All-head ValidEntry e es v)
+fits f one s (e ∷ es) v (suc j) h = fits f one e.move.target es (All-tail ValidEntry e es v) j (omega arith)
 
 laid_boxed : (s : List ℤ) (es : List Entry) → AllValid es → Box (laid s es) (summary reach_rule (laid s es))
 laid_boxed s es v =
@@ -40,6 +40,10 @@ laid_boxed s es v =
 laid_between : (s : List ℤ) (es : List Entry) (i j : ℕ) → between i j (laid s es) ≡ laid (end_of s (take i es)) (between i j es)
 laid_between s es i j = ap (take (j - i)) (laid_drop s es i) ∙ laid_take (end_of s (take i es)) (drop i es) (j - i)
 
+pub some_box : (xs : List Block) → 0 < length xs → box_of xs ≡ Some (summary reach_rule xs)
+some_box [] h = absurd (omega arith)
+some_box (x ∷ xs) h = refl
+
 module _ (b : Model) (i j : ℕ) where
   long : length (blocks_of b) ≡ length b.entries
   long = laid_length b.start b.entries
@@ -51,7 +55,7 @@ module _ (b : Model) (i j : ℕ) where
         nowhere = λ never. range_nowhere no_range b.entries i j _ (λ order within. never order (omega (arith, long)));
         empty = λ same within. told (omega arith) within ∙ ap (λ k. Ok (box_of (between i k (blocks_of b)))) (sym same) ∙ ap (λ none. Ok (box_of none)) (between_none (blocks_of b) i);
         boxed = λ order within.
-            let boxes = laid_boxed (end_of b.start (take i b.entries)) (between i j b.entries) (all_between b.entries i j valid) in
+            let boxes = laid_boxed (end_of b.start (take i b.entries)) (between i j b.entries) (all_between b.entries i valid j) in
             let some : 0 < length (between i j (blocks_of b)) = omega (arith, length-between (blocks_of b) i j within) in (
               summary reach_rule (between i j (blocks_of b)),
               subst (λ xs. Box xs (summary reach_rule xs)) (sym (laid_between b.start b.entries i j)) boxes,

@@ -1,13 +1,14 @@
 -- What a plan tells of a junction: by parts it is what the passes give, and that is the greatest lawful profile.
-use Rattle.std.proofs.Common.{◌≡◌, ℕ, ◌<◌, ◌≤◌, min, cond, ltb, List, length, Ok, Err, Result, sym, ap, ◌∙◌, subst, ⊎_elim, arith}
-use Rattle.std.proofs.lemmas.Bool.{cases_lt, lt-ltb, le-ltb, le-leb, lt-leb}
+use Rattle.std.proofs.Common.{◌≡◌, ℕ, ◌<◌, ◌≤◌, min, List, length, Ok, Err, Result, sym, ap, ◌∙◌, subst, ⊎_elim, arith, rules}
+use Rattle.std.proofs.lemmas.Bool.Decides.{nat_tests}
+use Rattle.std.proofs.lemmas.Bool.{cases_lt}
 use Rattle.refusals.specs.declared.Refusal.{Refusal}
 use Rattle.refusals.specs.declared.Refusal.TheVariants.{Speed, Blocked}
 use Rattle.kinds.specs.Rules.{summary}
 use Rattle.sequences.proofs.Rulings.{not_both}
 use Rattle.motion.specs.declared.blocks.Block.{Block}
 use Rattle.motion.specs.ByParts.{run_up_to, run_down_from}
-use Rattle.motion.specs.Profiles.{at, Starts, Greatest, FirstBlocked, driven, refused, reverse_at, speeds_of, first_blocked, planned}
+use Rattle.motion.specs.Profiles.{at, Starts, Greatest, FirstBlocked, reverse_at, speeds_of, first_blocked, planned}
 use Rattle.motion.specs.Runs.{through, run_down_rule}
 use Rattle.motion.proofs.Blocking.{first_blocked_first}
 use Rattle.motion.proofs.Laying.{laid_length}
@@ -19,10 +20,10 @@ use Rattle.plan.specs.Promises.{JunctionRight}
 module _ (blocks : List Block) (j s : ℕ) where
   -- by the start: the speeds of the passes, or the first blocked junction
   started : s ≤ reverse_at blocks 0 → speed_at j (planned blocks s) ≡ Ok (at (speeds_of blocks s) j)
-  started low = ap (λ t. speed_at j (cond t (driven (speeds_of blocks s)) (refused (first_blocked blocks s)))) (le-leb s (reverse_at blocks 0) low)
+  started low = grind (arith, nat_tests)
 
   stopped : reverse_at blocks 0 < s → speed_at j (planned blocks s) ≡ Err (Blocked (first_blocked blocks s))
-  stopped high = ap (λ t. speed_at j (cond t (driven (speeds_of blocks s)) (refused (first_blocked blocks s)))) (lt-leb s (reverse_at blocks 0) high)
+  stopped high = grind (arith, nat_tests)
 
   pub driven_told : s ≤ through (summary run_down_rule blocks) 0 → j ≤ length blocks → speed_at j (planned blocks s) ≡ Ok (min (run_up_to blocks j s) (run_down_from blocks j))
   driven_told low within =
@@ -72,39 +73,20 @@ module _ (b : Model) (j s : ℕ) where
   long = laid_length b.start b.entries
 
   pub told_fast : 100000000 < s → junction_told b j s ≡ Err Speed
-  told_fast h = ap (λ t. cond t (Err Speed) (cond (ltb (length b.entries) j) (Err no_range) (speed_at j (planned xs s)))) (lt-ltb 100000000 s h)
-
-  told_slow : s ≤ 100000000 → junction_told b j s ≡ cond (ltb (length b.entries) j) (Err no_range) (speed_at j (planned xs s))
-  told_slow h = ap (λ t. cond t (Err Speed) (cond (ltb (length b.entries) j) (Err no_range) (speed_at j (planned xs s)))) (le-ltb 100000000 s h)
+  told_fast fast = grind (arith, nat_tests)
 
   pub told_far : s ≤ 100000000 → length xs < j → junction_told b j s ≡ Err no_range
-  told_far h past = told_slow h ∙ ap (λ t. cond t (Err no_range) (speed_at j (planned xs s))) (lt-ltb (length b.entries) j (omega (arith, long)))
+  told_far slow past = grind (arith, nat_tests, long)
 
   pub told_near : s ≤ 100000000 → j ≤ length xs → junction_told b j s ≡ speed_at j (planned xs s)
-  told_near h within = told_slow h ∙ ap (λ t. cond t (Err no_range) (speed_at j (planned xs s))) (le-ltb (length b.entries) j (omega (arith, long)))
+  told_near slow within = grind (arith, nat_tests, long)
 
   pub junction_right : JunctionRight xs j s (junction_told b j s)
   junction_right =
       ⊎_elim
-      (λ fast. let told = told_fast fast in
-      record {
-        too_fast = λ _. told;
-        too_far = λ slow past. absurd (omega arith);
-        driven = λ slow within v. absurd (omega arith);
-        one_greatest = λ v x most e. absurd (not_both (sym e ∙ told));
-        blocked = λ slow within none. absurd (omega arith);
-        only_blocked = λ m e. let z : ◌≡◌ {A = ℕ} 0 1 = cc in absurd (omega arith);
-      })
+      (λ fast. subst (JunctionRight xs j s) (sym (told_fast fast)) (search rules))
       (λ slow. ⊎_elim
-      (λ past. let told = told_far slow past in
-      record {
-        too_fast = λ fast. absurd (omega arith);
-        too_far = λ _ _. told;
-        driven = λ _ within v. absurd (omega arith);
-        one_greatest = λ v x most e. absurd (not_both (sym e ∙ told));
-        blocked = λ _ within none. absurd (omega arith);
-        only_blocked = λ m e. let z : ◌≡◌ {A = ℕ} 0 1 = cc in absurd (omega arith);
-      })
+      (λ past. subst (JunctionRight xs j s) (sym (told_far slow past)) (search rules))
       (λ within. let n = subst (Near xs j s) (sym (told_near slow within)) (near xs j s) in
       record {
         too_fast = λ fast. absurd (omega arith);

@@ -1,10 +1,9 @@
-mod Exits
-mod Begins
 mod Accepted
 mod Following
-mod Editing
-mod Overriding
-mod Asking
-mod Junctions
+pub mod Editing
+mod Elements
 mod Extents
+mod Asking
+mod Overriding
+mod Junctions
 mod Running

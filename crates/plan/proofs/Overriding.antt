@@ -1,17 +1,22 @@
 -- One element more of a range that is changed element by element, and the blocks of moves that are overridden so.
-use Rattle.std.proofs.Common.{◌≡◌, ℕ, zero, suc, ◌+◌, ◌-◌, ◌<◌, ◌≤◌, List, [], ◌∷◌, ◌++◌, map, length, get_or, take, drop, set, ℤ, sym, refl, ap, ◌∙◌, subst, add-zero, arith}
+use Rattle.std.proofs.Common.{◌≡◌, ℕ, zero, suc, ◌+◌, ◌-◌, ◌<◌, ◌≤◌, true, cond, List, [], ◌∷◌, ◌++◌, map, length, get_or, take, drop, set, ℤ, Ok, Err, sym, refl, ap, ◌∙◌, subst, add-zero, arith}
 use Rattle.std.specs.List.{between}
 use Rattle.std.proofs.lemmas.List.Edits.{between_none, map_over_more}
 use Rattle.std.proofs.lemmas.List.{take-append-drop, drop-drop, length-drop, length-take-le, set-append_right, get_or-append_right}
+use Rattle.std.proofs.lemmas.Bool.Decides.{nat_tests}
+use Rattle.refusals.specs.declared.Refusal.TheVariants.{Override}
+use Rattle.sequences.specs.Lists.{ranged}
+use Rattle.sequences.proofs.Rulings.{range_accepted}
 use Rattle.motion.specs.declared.blocks.Block.{Block}
 use Rattle.motion.specs.Figures.{at_percent}
 use Rattle.motion.specs.Laid.{Entry, laid, overridden, idle}
 use Rattle.motion.proofs.Laying.{laid_length, laid_override}
 use Rattle.plan.specs.declared.Plan.{Plan}
-use Rattle.plan.specs.Keeping.{Keeps, start_of}
-use Rattle.plan.specs.Models.{Model, with_entries, changed_in}
+use Rattle.plan.specs.Keeping.{Keeps}
+use Rattle.plan.specs.Models.{Model, no_range, percent_fits, override_told, with_entries, changed_in}
 use Rattle.plan.proofs.Accepted.{all_changed}
-use Rattle.plan.proofs.Editing.{same_length}
+use Rattle.plan.proofs.Asking.{ranged_kept}
+use Rattle.plan.proofs.Editing.{same_length, with_blocks, edited}
 
 -- what is read may as well be the default
 get_or_again : {E : Type 0} (xs : List E) (n : ℕ) (d : E) → get_or xs n (get_or xs n d) ≡ get_or xs n d
@@ -80,15 +85,15 @@ module _ (start : List ℤ) (es : List Entry) (i percent : ℕ) where
       let up : i + (j - i) ≡ j = omega arith in
       subst (λ k. laid start (changed_in (λ e. overridden e percent) es i k) ≡ changed_in (λ b. at_percent b percent) (laid start es) i k) up (laid_by (j - i) (omega arith))
 
-module _ {S : Type 0} (list : S → List Block) (room : S → ℕ) (told : S → Type 0) (b : Model) (p : Plan S) (k : Keeps list room told b p) where
-  pub overridden_keeps : (q : Plan S) → start_of q ≡ start_of p → room q.blocks ≡ room p.blocks → (told p.blocks → told q.blocks) → (i j percent : ℕ) → 10 ≤ percent → percent ≤ 200 → i ≤ j → j ≤ length (list p.blocks) → list q.blocks ≡ changed_in (λ x. at_percent x percent) (list p.blocks) i j → Keeps list room told (with_entries b (changed_in (λ e. overridden e percent) b.entries i j)) q
-  overridden_keeps q start-kept room-kept told-kept i j percent low high order within made =
-      record {
-        starts = start-kept ∙ k.starts;
-        fits = room-kept ∙ k.fits;
-        holds = made ∙ ap (λ xs. changed_in (λ x. at_percent x percent) xs i j) k.holds
-            ∙ sym (laid_changed b.start b.entries i percent j order (omega (arith, same_length list room told b p k)));
-        sums = told-kept k.sums;
-        start = k.start;
-        entries = all_changed (λ e. overridden e percent) (λ e v. record { move = v.move; least = low; most = high }) b.entries i j k.entries;
-      }
+module _ {S : Type 0} (list : S → List Block) (room : S → ℕ) (b : Model) (p : Plan S) (k : Keeps list room b p) (i j percent : ℕ) (fit : percent_fits percent ≡ true) where
+  pub override_answered : override_told b i j percent ≡ ranged no_range (list p.blocks) i j tt
+  override_answered = ap (λ t. cond t (ranged no_range b.entries i j tt) (Err Override)) fit ∙ sym (ranged_kept list room b p k i j tt)
+
+  pub overridden_keeps : (xs : S) → room xs ≡ room p.blocks → ranged {X = Unit {0}} no_range (list p.blocks) i j tt ≡ Ok tt → list xs ≡ changed_in (λ x. at_percent x percent) (list p.blocks) i j → Keeps list room (with_entries b (changed_in (λ e. overridden e percent) b.entries i j)) (with_blocks p xs)
+  overridden_keeps xs room-kept told made =
+      let there = range_accepted no_range (list p.blocks) i j told in
+      let low : 10 ≤ percent = grind (arith, nat_tests) in
+      let high : percent ≤ 200 = grind (arith, nat_tests) in
+      edited list room b p k xs room-kept _ (all_changed b.entries i k.entries (λ e. overridden e percent) (λ e v. record { move = v.move; least = low; most = high }) j)
+      (made ∙ ap (λ ys. changed_in (λ x. at_percent x percent) ys i j) k.holds
+      ∙ sym (laid_changed b.start b.entries i percent j there.0 (omega (arith, there.1, same_length list room b p k))))

@@ -1,6 +1,6 @@
 -- The reference model of a plan: a start, a room and a list of moves, each with its override, and nothing derived.
 -- It is fed each call with its arguments. The blocks, where each begins and their figures follow from it.
-use Rattle.std.specs.Prelude.{ℕ, Bool, cond, ◌&&◌, List, [], ◌∷◌, ◌++◌, map, length, take, drop, ℤ, pos, Some, None, Ok, Err, Option, Result, nat_le, nat_lt, slice_set}
+use Rattle.std.specs.Prelude.{ℕ, Bool, cond, ◌&&◌, List, [], ◌∷◌, ◌++◌, map, length, take, drop, ℤ, pos, Some, None, Ok, Err, Option, Result, nat_le, nat_lt, slice_index_or, slice_set}
 use Rattle.std.specs.List.{insert, remove, between}
 use Rattle.refusals.specs.declared.Layer.TheVariants.{Plan}
 use Rattle.refusals.specs.declared.Refusal.{Refusal}
@@ -14,7 +14,7 @@ use Rattle.motion.specs.declared.extents.Extent.{Extent}
 use Rattle.motion.specs.declared.moves.Move.{Move}
 use Rattle.motion.specs.declared.runs.Run.{Run}
 use Rattle.motion.specs.Extents.{reach_rule, span_rule}
-use Rattle.motion.specs.Laid.{Entry, laid, overridden}
+use Rattle.motion.specs.Laid.{Entry, laid, overridden, idle}
 use Rattle.motion.specs.Profiles.{at, Outcome, driven, refused, planned}
 use Rattle.motion.specs.Ranges.{axis, check_position, check_move}
 use Rattle.motion.specs.Runs.{run_up_rule, run_down_rule}
@@ -78,6 +78,10 @@ delete_model b i = settled (delete_told b i) (with_entries b (remove b.entries i
 
 abbrev pub percent_fits : ℕ → Bool
 percent_fits percent = nat_le 10 percent && nat_le percent 200
+
+-- f of the element at i, if there is one, the others as they are
+abbrev pub altered : (Block → Block) → List Block → ℕ → List Block
+altered f blocks i = slice_set blocks i (f (slice_index_or blocks i idle))
 
 -- f of each element of the range, the others as they are
 abbrev pub changed_in : {E : Type 0} → (E → E) → List E → ℕ → ℕ → List E

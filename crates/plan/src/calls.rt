@@ -1,14 +1,14 @@
 // The calls of a plan as values, and runs of them.
 ghost use Rattle.std.specs.Prelude.{◌≡◌, true, false, is_ok, IfOk};
-ghost use Rattle.plan.specs.Calls.{answer, after, answers, after_all, Right, AllRight, Unaltering};
+ghost use Rattle.plan.specs.Calls.{answer, after, answers, after_all, Right, AllRight, Unaltering, Step};
 ghost use Rattle.plan.specs.Keeping.{Keeps, Follows};
 ghost use Rattle.plan.specs.Models.{Model};
 
 use crate::Plan;
-use crate::summaries::{PlanKind, Summary};
-use motion::{Block, Extent, Move};
+use crate::summaries::Blocks;
+use motion::{Extent, Move};
 use refusals::Refusal;
-use sequences::Sequence;
+use sequences::answering::{Answering, make_all};
 use std::alloc::{AllocError, Global};
 use std::fmt;
 
@@ -59,23 +59,22 @@ impl fmt::Display for Answer {
     fn fmt<W: fmt::Write>(&self, f: &mut fmt::Formatter<W>) -> fmt::Result {
         match self {
             Answer::Edit(Ok(())) => f.write_str("ok"),
-            Answer::Speed(Ok(speed)) => write!(f, "{speed}"),
+            Answer::Speed(Ok(number)) | Answer::Length(Ok(number)) => write!(f, "{number}"),
             Answer::Extent(Ok(None)) => f.write_str("none"),
             Answer::Extent(Ok(Some(extent))) => write!(f, "{extent}"),
-            Answer::Length(Ok(length)) => write!(f, "{length}"),
-            Answer::Edit(Err(why)) => write!(f, "refused {why}"),
-            Answer::Speed(Err(why)) => write!(f, "refused {why}"),
-            Answer::Extent(Err(why)) => write!(f, "refused {why}"),
-            Answer::Length(Err(why)) => write!(f, "refused {why}"),
+            Answer::Edit(Err(why))
+            | Answer::Speed(Err(why))
+            | Answer::Extent(Err(why))
+            | Answer::Length(Err(why)) => write!(f, "refused {why}"),
         }
     }
 }
 
-impl<S: Sequence<Element = Block, Summary = Summary, Kind = PlanKind>> Plan<S> {
+impl<S: Blocks> Plan<S> {
     // Makes one call.
     pub fn apply(&mut self, call: Call) -> Answer
-        ensures model { Follows S.Sequence.list S.Sequence.room S.Sequence.told (λ b. answer b call) (λ b. after b call) self.old self.new result }
-        ensures right { (b : Model) → Keeps S.Sequence.list S.Sequence.room S.Sequence.told b self.old → Right b call result }
+        ensures model { Follows S.Sequence.list S.Sequence.room (λ b. answer b call) (λ b. after b call) self.old self.new result }
+        ensures right { (b : Model) → Keeps S.Sequence.list S.Sequence.room b self.old → Right b call result }
         ensures same { Unaltering call result → self.new ≡ self.old }
     {
         match call {
@@ -93,15 +92,23 @@ impl<S: Sequence<Element = Block, Summary = Summary, Kind = PlanKind>> Plan<S> {
     // Makes the calls one after the other, and collects what they answer. Where there is no memory for the answers,
     // it makes none of them.
     pub fn run(&mut self, heap: Global, calls: &[Call]) -> Result<Vec<Answer>, AllocError>
-        ensures value { (b : Model) → Keeps S.Sequence.list S.Sequence.room S.Sequence.told b self.old → IfOk result (λ v. v.items ≡ answers b calls.now) }
-        ensures right { (b : Model) → Keeps S.Sequence.list S.Sequence.room S.Sequence.told b self.old → IfOk result (λ v. AllRight b calls.now v.items) }
-        ensures after { is_ok result ≡ true → (b : Model) → Keeps S.Sequence.list S.Sequence.room S.Sequence.told b self.old → Keeps S.Sequence.list S.Sequence.room S.Sequence.told (after_all b calls.now) self.new }
+        ensures value { (b : Model) → Keeps S.Sequence.list S.Sequence.room b self.old → IfOk result (λ v. v.items ≡ answers b calls.now) }
+        ensures right { (b : Model) → Keeps S.Sequence.list S.Sequence.room b self.old → IfOk result (λ v. AllRight b calls.now v.items) }
+        ensures after { is_ok result ≡ true → (b : Model) → Keeps S.Sequence.list S.Sequence.room b self.old → Keeps S.Sequence.list S.Sequence.room (after_all b calls.now) self.new }
         ensures refused { is_ok result ≡ false → self.new ≡ self.old }
     {
-        let mut answers = Vec::with_capacity(heap, calls.len())?;
-        for call in calls {
-            answers.push_reserved(self.apply(*call));
-        }
-        Ok(answers)
+        make_all(heap, self, calls)
+    }
+}
+
+impl<S: Blocks> Answering for Plan<S> {
+    type Call = Call;
+
+    type Answer = Answer;
+
+    ghost step = { λ p call told q. Step S.Sequence.list S.Sequence.room p call told q };
+
+    fn make(&mut self, call: Call) -> Answer {
+        self.apply(call)
     }
 }

@@ -5,10 +5,8 @@ ghost use Rattle.std.specs.Prelude.{◌≡◌, []};
 ghost use Rattle.plan.specs.Keeping.{Keeps};
 ghost use Rattle.plan.specs.Models.{opened};
 
-use self::summaries::{PlanKind, Summary};
-use motion::Block;
+use self::summaries::Blocks;
 use refusals::{Layer, Refusal};
-use sequences::Sequence;
 
 pub mod calls;
 pub mod depth;
@@ -19,6 +17,8 @@ pub mod summaries;
 // A range or a junction that there is not.
 const NO_RANGE: Refusal = Refusal::NoPlace(Layer::Plan);
 
+// The start stays plain fields, as the places in a block are: a position is an array only where it is passed. The contracts
+// speak of every model that the plan keeps (specs/Keeping.antt): tried to name one in the type, and the proof does not close.
 #[derive(Drop)]
 pub struct Plan<S> {
     start_x: i32,
@@ -27,12 +27,12 @@ pub struct Plan<S> {
     blocks: S,
 }
 
-impl<S: Sequence<Element = Block, Summary = Summary, Kind = PlanKind>> Plan<S> {
-    // A plan with no block, at the origin.
+impl<S: Blocks> Plan<S> {
+    // A plan with no block, at the origin. The code that joins the two hands in an empty sequence, by a rule of the project.
     pub fn open(blocks: S) -> Plan<S>
         requires { S.Sequence.list blocks ≡ [] }
         ensures same { result.blocks ≡ blocks }
-        ensures model { S.Sequence.told blocks → Keeps S.Sequence.list S.Sequence.room S.Sequence.told (opened (S.Sequence.room blocks)) result }
+        ensures model { Keeps S.Sequence.list S.Sequence.room (opened (S.Sequence.room blocks)) result }
     {
         Plan {
             start_x: 0,

@@ -6,18 +6,21 @@ ghost use Rattle.plan.specs.Models.{plan_rule};
 
 use kinds::{Both, Kind, Pair};
 use motion::{Block, Extent, Reach, Run, RunDown, RunUp, Span};
+use sequences::Sequence;
 
+// Of a range: its run-up and its run-down, its reach and its span.
 pub type Summary = Pair<Pair<Run, Run>, Pair<Extent, u32>>;
 
 type Sides = Both<Both<RunUp, RunDown>, Both<Reach, Span>>;
 
-// The four kinds side by side, under one name.
+// The four kinds side by side. A struct with an impl of its own: where a bound names the nested type itself, no call of
+// the bound's methods gets a proof yet.
 pub struct PlanKind {}
 
 impl Kind for PlanKind {
     type Element = Block;
 
-    type Summary = Pair<Pair<Run, Run>, Pair<Extent, u32>>;
+    type Summary = Summary;
 
     ghost rule = { plan_rule };
 
@@ -37,3 +40,8 @@ impl Kind for PlanKind {
         Sides::join(a, b)
     }
 }
+
+// Whatever holds the blocks of a plan, with these summaries of their ranges.
+pub trait Blocks: Sequence<Element = Block, Summary = Summary, Kind = PlanKind> {}
+
+impl<S: Sequence<Element = Block, Summary = Summary, Kind = PlanKind>> Blocks for S {}

@@ -1,9 +1,9 @@
 -- The one table of refusals: the number and the layer of every case.
-use Rattle.std.specs.Prelude.{ℕ, List, [], ◌++◌, codes, decimal}
+use Rattle.std.specs.Prelude.{ℕ, List, [], ◌++◌, Some, None, Option, codes, decimal}
 use Rattle.refusals.specs.declared.Layer.{Layer}
 use Rattle.refusals.specs.declared.Layer.TheVariants.{Sequence, Plan, Survey, Job}
 use Rattle.refusals.specs.declared.Named.{Named}
-use Rattle.refusals.specs.declared.Named.TheVariants.{Nothing, Junction, Offset}
+use Rattle.refusals.specs.declared.Named.TheVariants.{Junction, Offset}
 use Rattle.refusals.specs.declared.Refusal.{Refusal}
 use Rattle.refusals.specs.declared.Refusal.TheVariants.{NoPlace, Full, Coordinate, Rate, Override, Reading, Speed, Blocked, Buffer, Cut, Tag, FieldLength, EndByte, Trailing}
 
@@ -63,28 +63,28 @@ reason_of (FieldLength offset) = codes "wrong length for the tag"
 reason_of (EndByte offset) = codes "wrong end byte"
 reason_of (Trailing offset) = codes "bytes after the end"
 
--- what else a case names
-abbrev pub named_of : Refusal → Named
-named_of (NoPlace layer) = Nothing
-named_of Full = Nothing
-named_of Coordinate = Nothing
-named_of Rate = Nothing
-named_of Override = Nothing
-named_of Reading = Nothing
-named_of Speed = Nothing
-named_of (Blocked junction) = Junction junction
-named_of Buffer = Nothing
-named_of (Cut offset) = Offset offset
-named_of (Tag offset) = Offset offset
-named_of (FieldLength offset) = Offset offset
-named_of (EndByte offset) = Offset offset
-named_of (Trailing offset) = Offset offset
+-- what else a case names, if anything
+abbrev pub named_of : Refusal → Option Named
+named_of (NoPlace layer) = None
+named_of Full = None
+named_of Coordinate = None
+named_of Rate = None
+named_of Override = None
+named_of Reading = None
+named_of Speed = None
+named_of (Blocked junction) = Some (Junction junction)
+named_of Buffer = None
+named_of (Cut offset) = Some (Offset offset)
+named_of (Tag offset) = Some (Offset offset)
+named_of (FieldLength offset) = Some (Offset offset)
+named_of (EndByte offset) = Some (Offset offset)
+named_of (Trailing offset) = Some (Offset offset)
 
 -- and as it is printed
-abbrev pub shown_name : Named → List ℕ
-shown_name Nothing = []
-shown_name (Junction junction) = codes ", junction " ++ decimal junction
-shown_name (Offset offset) = codes ", offset " ++ decimal offset
+abbrev pub shown_name : Option Named → List ℕ
+shown_name None = []
+shown_name (Some (Junction junction)) = codes ", junction " ++ decimal junction
+shown_name (Some (Offset offset)) = codes ", offset " ++ decimal offset
 
 -- number, layer and reason, and what else the case names, as they are printed
 abbrev pub words_of : Refusal → List ℕ

@@ -47,16 +47,16 @@ pub enum Refusal {
     Trailing(u32),
 }
 
-// What a case names besides its number and its layer.
+// What a case may name besides its number and its layer.
 #[derive(Clone, Copy, PartialEq, Eq, Debug)]
 pub enum Named {
-    Nothing,
     Junction(u16),
     // Of a byte, from the job's first.
     Offset(u32),
 }
 
 impl Refusal {
+    // A plain number, since lines and panels know a refusal by it.
     pub fn number(self) -> u8
         ensures { result ≡ number_of self }
     {
@@ -84,39 +84,39 @@ impl Refusal {
         match self {
             Refusal::NoPlace(layer) => layer,
             Refusal::Full => Layer::Sequence,
-            Refusal::Coordinate => Layer::Plan,
-            Refusal::Rate => Layer::Plan,
-            Refusal::Override => Layer::Plan,
+            Refusal::Coordinate
+            | Refusal::Rate
+            | Refusal::Override
+            | Refusal::Speed
+            | Refusal::Blocked(_) => Layer::Plan,
             Refusal::Reading => Layer::Survey,
-            Refusal::Speed => Layer::Plan,
-            Refusal::Blocked(_) => Layer::Plan,
-            Refusal::Buffer => Layer::Job,
-            Refusal::Cut(_) => Layer::Job,
-            Refusal::Tag(_) => Layer::Job,
-            Refusal::FieldLength(_) => Layer::Job,
-            Refusal::EndByte(_) => Layer::Job,
-            Refusal::Trailing(_) => Layer::Job,
+            Refusal::Buffer
+            | Refusal::Cut(_)
+            | Refusal::Tag(_)
+            | Refusal::FieldLength(_)
+            | Refusal::EndByte(_)
+            | Refusal::Trailing(_) => Layer::Job,
         }
     }
 
-    pub fn named(self) -> Named
+    pub fn named(self) -> Option<Named>
         ensures { result ≡ named_of self }
     {
         match self {
-            Refusal::Blocked(junction) => Named::Junction(junction),
-            Refusal::Cut(offset) => Named::Offset(offset),
-            Refusal::Tag(offset) => Named::Offset(offset),
-            Refusal::FieldLength(offset) => Named::Offset(offset),
-            Refusal::EndByte(offset) => Named::Offset(offset),
-            Refusal::Trailing(offset) => Named::Offset(offset),
-            Refusal::NoPlace(_) => Named::Nothing,
-            Refusal::Full => Named::Nothing,
-            Refusal::Coordinate => Named::Nothing,
-            Refusal::Rate => Named::Nothing,
-            Refusal::Override => Named::Nothing,
-            Refusal::Reading => Named::Nothing,
-            Refusal::Speed => Named::Nothing,
-            Refusal::Buffer => Named::Nothing,
+            Refusal::Blocked(junction) => Some(Named::Junction(junction)),
+            Refusal::Cut(offset)
+            | Refusal::Tag(offset)
+            | Refusal::FieldLength(offset)
+            | Refusal::EndByte(offset)
+            | Refusal::Trailing(offset) => Some(Named::Offset(offset)),
+            Refusal::NoPlace(_)
+            | Refusal::Full
+            | Refusal::Coordinate
+            | Refusal::Rate
+            | Refusal::Override
+            | Refusal::Reading
+            | Refusal::Speed
+            | Refusal::Buffer => None,
         }
     }
 
@@ -143,16 +143,24 @@ impl Refusal {
     }
 }
 
+impl Layer {
+    pub fn name(self) -> &'static str
+        ensures { result.now ≡ name_of self }
+    {
+        match self {
+            Layer::Sequence => "sequence",
+            Layer::Plan => "plan",
+            Layer::Survey => "survey",
+            Layer::Job => "job",
+        }
+    }
+}
+
 impl fmt::Display for Layer {
     ghost output = { λ layer. Some (name_of layer) };
 
     fn fmt<W: fmt::Write>(&self, f: &mut fmt::Formatter<W>) -> fmt::Result {
-        match self {
-            Layer::Sequence => f.write_str("sequence"),
-            Layer::Plan => f.write_str("plan"),
-            Layer::Survey => f.write_str("survey"),
-            Layer::Job => f.write_str("job"),
-        }
+        f.write_str(self.name())
     }
 }
 
@@ -165,12 +173,12 @@ impl fmt::Display for Refusal {
         let layer = self.layer();
         let reason = self.reason();
         match self.named() {
-            Named::Nothing => write!(f, "{number} {layer}: {reason}"),
-            Named::Junction(junction) => write!(
+            None => write!(f, "{number} {layer}: {reason}"),
+            Some(Named::Junction(junction)) => write!(
                 f,
                 "{number} {layer}: {reason}, junction {junction}"
             ),
-            Named::Offset(offset) => write!(f, "{number} {layer}: {reason}, offset {offset}"),
+            Some(Named::Offset(offset)) => write!(f, "{number} {layer}: {reason}, offset {offset}"),
         }
     }
 }

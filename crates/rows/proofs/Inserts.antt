@@ -1,8 +1,7 @@
 -- What an insertion makes of a tree.
-use Rattle.std.proofs.Common.{◌≡◌, ℕ, suc, ◌+◌, ◌≤◌, List, ◌∷◌, ◌++◌, length, take, drop, Option, sym, refl, ap, ◌∙◌, append_assoc, arith}
-use lib.Seq.{take-append-le, drop-append-le, take-append-add, drop-append-add}
+use Rattle.std.proofs.Common.{◌≡◌, ℕ, suc, ◌+◌, ◌-◌, ◌≤◌, List, ◌∷◌, ◌++◌, length, Option, sym, refl, ap, ◌∙◌, arith}
 use Rattle.std.specs.List.{insert}
-use Rattle.std.proofs.lemmas.List.Edits.{length-insert}
+use Rattle.std.proofs.lemmas.List.Edits.{length-insert, insert-append_left, insert-append_right}
 use Rattle.kinds.specs.Rules.{Rule}
 use Rattle.rows.specs.Edits.{Refreshed, Rebalanced, Insert, Inserted}
 use Rattle.rows.specs.Shape.{Shape, Cell, leaf, node, count_of, elements, node_of, Rooted}
@@ -11,13 +10,11 @@ use Rattle.rows.proofs.Frames.{put_node, long_put, kept_put}
 use Rattle.rows.proofs.Nodes.{length_elements}
 use Rattle.rows.proofs.SideEdits.{Beside, done_left, done_right}
 
--- an insertion in front of x or behind it
-module _ {E : Type 0} (xs ys : List E) (x : E) where
-  pub inserted_left : (i : ℕ) (e : E) → i ≤ length xs → insert (xs ++ (x ∷ ys)) i e ≡ insert xs i e ++ (x ∷ ys)
-  inserted_left i e h = rw (take-append-le i xs (x ∷ ys) h, drop-append-le i xs (x ∷ ys) h) (sym (append_assoc (take i xs) (e ∷ drop i xs) (x ∷ ys)))
-
-  pub inserted_right : (i j : ℕ) (e : E) → i ≡ length xs + suc j → insert (xs ++ (x ∷ ys)) i e ≡ xs ++ (x ∷ insert ys j e)
-  inserted_right i j e h = rw (h, take-append-add xs (x ∷ ys) (suc j), drop-append-add xs (x ∷ ys) (suc j)) (append_assoc xs (x ∷ take j ys) (e ∷ drop j ys))
+-- an insertion behind x
+inserted_right : {E : Type 0} (xs ys : List E) (x : E) (i j : ℕ) (e : E) → i ≡ length xs + suc j → insert (xs ++ (x ∷ ys)) i e ≡ xs ++ (x ∷ insert ys j e)
+inserted_right xs ys x i j e h =
+    let n : i - length xs ≡ suc j = omega arith in
+    insert-append_right xs (x ∷ ys) (length xs) i e refl (omega arith) ∙ ap (λ z. xs ++ insert (x ∷ ys) z e) n
 
 pub count_inserted : {E S : Type 0} (s t : Shape E S) (i : ℕ) (e : E) → elements s ≡ insert (elements t) i e → i ≤ count_of t → count_of s ≡ count_of t + 1
 count_inserted s t i e holds h =
@@ -27,15 +24,10 @@ count_inserted s t i e holds h =
 module _ {E S : Type 0} {rows : List (Row E S)} {top : Option ℕ} {i fresh p : ℕ} {x : Cell E S} {l r : Shape E S} (o : Insert rows top i fresh (node p x l r)) where
   pub insert_left : {side : Option ℕ} → Rooted rows side l → i ≤ count_of l → Insert rows side i fresh l
   insert_left s h =
-      let f = o.few in
-      let w = o.low in
       record { rooted = s; balanced = o.balanced.2; inside = h; within = o.within; places = λ k. omega (arith, o.places k); few = omega arith; low = omega arith }
 
   pub insert_right : {side : Option ℕ} (j : ℕ) → Rooted rows side r → i ≡ count_of l + suc j → Insert rows side j fresh r
   insert_right j s h =
-      let f = o.few in
-      let w = o.low in
-      let n = o.inside in
       record { rooted = s; balanced = o.balanced.3; inside = omega arith; within = o.within; places = λ k. omega (arith, o.places k); few = omega arith; low = omega arith }
 
   module _ {m : Rule E S} (e : E) {more : List (Row E S)} {q : ℕ} where
@@ -56,14 +48,8 @@ module _ {E S : Type 0} {rows : List (Row E S)} {top : Option ℕ} {i fresh p : 
 
     pub inserted_on_left : (d : Inserted m rows more i fresh e q l) {right : Option ℕ} → Beside d p right r → i ≤ count_of l → {y : E} → y ≡ x.element → {last : List (Row E S)} {new : ℕ} → Rebalanced m more last p y new d.t r → Inserted m rows last i fresh e new (node p x l r)
     inserted_on_left d b h {y} y-is a =
-        let b0 = o.balanced.0 in
-        let b1 = o.balanced.1 in
-        let lo = d.at_least in
-        let hi = d.at_most in
-        let ulo = a.edit.at_least in
-        let uhi = a.edit.at_most in
         done_left b (λ k z. (omega arith, omega arith)) (λ k. omega arith) (λ t. (t.1, t.2)) a
-        (ap (λ z. insert (elements l) i e ++ (z ∷ elements r)) y-is ∙ sym (inserted_left (elements l) (elements r) x.element i e (omega (arith, length_elements l))))
+        (ap (λ z. insert (elements l) i e ++ (z ∷ elements r)) y-is ∙ sym (insert-append_left (elements l) (x.element ∷ elements r) i e (omega (arith, length_elements l))))
         (grind (arith, a.exact)) (omega arith)
 
     pub beside_right : (j : ℕ) (d : Inserted m rows more j fresh e q r) {left : Option ℕ} → Rooted rows left l → i ≡ count_of l + suc j → Beside d p left l
@@ -83,12 +69,6 @@ module _ {E S : Type 0} {rows : List (Row E S)} {top : Option ℕ} {i fresh p : 
 
     pub inserted_on_right : (j : ℕ) (d : Inserted m rows more j fresh e q r) {left : Option ℕ} → Beside d p left l → i ≡ count_of l + suc j → {y : E} → y ≡ x.element → {last : List (Row E S)} {new : ℕ} → Rebalanced m more last p y new l d.t → Inserted m rows last i fresh e new (node p x l r)
     inserted_on_right j d b h {y} y-is a =
-        let b0 = o.balanced.0 in
-        let b1 = o.balanced.1 in
-        let lo = d.at_least in
-        let hi = d.at_most in
-        let ulo = a.edit.at_least in
-        let uhi = a.edit.at_most in
         done_right b (λ k z. (omega arith, omega arith)) (λ k. omega arith) (λ t. (t.2, t.1)) a
         (ap (λ z. elements l ++ (z ∷ insert (elements r) j e)) y-is ∙ sym (inserted_right (elements l) (elements r) x.element i j e (omega (arith, length_elements l))))
         (grind (arith, a.exact)) (omega arith)

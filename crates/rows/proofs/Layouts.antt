@@ -5,9 +5,10 @@ use native.Mathlib.Nat.{ℕ_set}
 use native.Mathlib.Bridge.{le_prop}
 use Rattle.std.specs.List.{slice_get}
 use Rattle.std.proofs.lemmas.Option.{slice_get_read, slice_get-get_or}
+use Rattle.kinds.specs.Rules.{Rule}
 use Rattle.rows.specs.FreeList.{FreeList}
-use Rattle.rows.specs.Layouts.{read_from, read, shape_of, onward, follow, free_of, Layout, Sound}
-use Rattle.rows.specs.Shape.{Shape, leaf, node, link, count_of, depth_of, row_of, Lies, Balanced, Rooted}
+use Rattle.rows.specs.Layouts.{read_from, read, shape_of, onward, follow, free_of, Layout, Laid, Sound}
+use Rattle.rows.specs.Shape.{Shape, leaf, node, link, count_of, depth_of, row_of, Lies, Balanced, Rooted, Told}
 use Rattle.rows.specs.declared.Heads.{Heads}
 use Rattle.rows.specs.declared.Row.{Row}
 use Rattle.rows.proofs.Depths.{shallow}
@@ -47,8 +48,6 @@ shape_none rows = refl
 module _ {E S : Type 0} {rows : List (Row E S)} {heads : Heads} {t : Shape E S} {fs : List ℕ} (s : Layout rows heads t fs) where
   pub few : count_of t ≤ 4096
   few =
-      let a = s.many in
-      let b = s.small in
       omega arith
 
   pub shape_is : shape_of rows heads.top ≡ t
@@ -58,12 +57,10 @@ module _ {E S : Type 0} {rows : List (Row E S)} {heads : Heads} {t : Shape E S} 
   free_is : free_of rows heads.free ≡ fs
   unfolding free_of
   free_is =
-      let a = s.many in
-      let b = s.small in
       follow_is rows 4096 heads.free fs s.free_list (omega arith)
 
-  pub sound : Sound rows heads
-  sound = subst₂ (λ a b. Layout rows heads a b) (sym shape_is) (sym free_is) s
+  pub laid : Laid rows heads
+  laid = subst₂ (λ a b. Layout rows heads a b) (sym shape_is) (sym free_is) s
 
 -- what holds under a truncation
 code : Option ℕ → ℕ
@@ -118,5 +115,9 @@ module _ {E S : Type 0} (se : IsSet E) (ss : IsSet S) (rows : List (Row E S)) wh
         within = ∥∥₁_elim h le_prop (λ k. k.within);
       }
 
-  pub sound_out : {heads : Heads} → ∥ Sound rows heads ∥₁ → Sound rows heads
-  sound_out {heads} h = layout_out heads (shape_of rows heads.top) (free_of rows heads.free) h
+  told_out : (m : Rule E S) (t : Shape E S) → ∥ Told m t ∥₁ → Told m t
+  told_out m leaf h = tt
+  told_out m (node p x l r) h = (∥∥₁_elim h (ss _ _) (λ k. k.0), told_out m l (∥∥₁_map h (λ k. k.1)), told_out m r (∥∥₁_map h (λ k. k.2)))
+
+  pub sound_out : {m : Rule E S} {heads : Heads} → ∥ Sound m rows heads ∥₁ → Sound m rows heads
+  sound_out {m} {heads} h = record { laid = layout_out heads (shape_of rows heads.top) (free_of rows heads.free) (∥∥₁_map h (λ k. k.laid)); told = told_out m (shape_of rows heads.top) (∥∥₁_map h (λ k. k.told)) }

@@ -1,5 +1,6 @@
 pub mod Frames
 pub mod Nodes
+pub mod Hands
 pub mod Rotations
 pub mod SideEdits
 pub mod Inserts

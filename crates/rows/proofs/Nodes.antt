@@ -1,7 +1,7 @@
 -- A tree, and the row at its top.
 use Rattle.std.proofs.Common.{◌≡◌, ℕ, ◌<◌, List, ◌∷◌, length, get_or, Some, None, Option, sym, refl, ap, ◌∙◌, subst, arith, length-append}
 use Rattle.std.proofs.lemmas.Option.{slice_get_read}
-use Rattle.rows.specs.Shape.{Shape, Cell, leaf, node, link, count_of, depth_of, elements, row_of, Lies, Rooted, depth_at, depth_in}
+use Rattle.rows.specs.Shape.{Shape, Cell, leaf, node, link, count_of, depth_of, elements, row_of, Rooted, depth_at, depth_in}
 use Rattle.rows.specs.declared.Row.{Row}
 
 pub length_elements : {E S : Type 0} (t : Shape E S) → length (elements t) ≡ count_of t
@@ -33,18 +33,6 @@ depth_is rows side (node p x l r) s =
     let k = s.1 in
     ap (depth_at rows) s.0 ∙ ap depth_in (slice_get_read rows (length rows) p (row_of x l r) refl k.0 (sym k.1))
 
--- the row that was read at a node
-pub record NodeRow {E S : Type 0} (rows : List (Row E S)) (row : Row E S) (x : Cell E S) (l r : Shape E S) : Type 0 where
-  pub is : row ≡ row_of x l r
-  pub left : Rooted rows row.left l
-  pub right : Rooted rows row.right r
-  pub element : row.element ≡ x.element
-
-pub node_row : {E S : Type 0} {rows : List (Row E S)} {row : Row E S} {p : ℕ} {x : Cell E S} {l r : Shape E S} → ((d : Row E S) → row ≡ get_or rows p d) → Lies rows (node p x l r) → NodeRow rows row x l r
-node_row {x} {l} {r} read k =
-    let is = read (row_of x l r) ∙ k.1 in
-    record { is = is; left = (ap (λ z. z.left) is, k.2); right = (ap (λ z. z.right) is, k.3); element = ap (λ z. z.element) is }
-
 -- the row that was read at the top of a tree, with the tree's sides
 pub record TopRow {E S : Type 0} (rows : List (Row E S)) (side : Option ℕ) (row : Row E S) (p : ℕ) (t : Shape E S) : Type 0 where
   pub x : Cell E S
@@ -61,8 +49,18 @@ pub top_row : {E S : Type 0} {rows : List (Row E S)} {side : Option ℕ} {row : 
 top_row {rows} {side} {row} {p} t at read s =
     let n = opened t p (sym at ∙ s.0) in
     let o = subst (Rooted rows side) n.is s in
-    let k : NodeRow rows row n.x n.l n.r = node_row read o.1 in
-    record { x = n.x; l = n.l; r = n.r; is = n.is; rooted = o; row_is = k.is; left = k.left; right = k.right; element = k.element }
+    let row_is = read (row_of n.x n.l n.r) ∙ o.1.1 in
+    record {
+      x = n.x;
+      l = n.l;
+      r = n.r;
+      is = n.is;
+      rooted = o;
+      row_is = row_is;
+      left = (ap (λ z. z.left) row_is, o.1.2);
+      right = (ap (λ z. z.right) row_is, o.1.3);
+      element = ap (λ z. z.element) row_is;
+    }
 
 -- the depth falls with each step down
 module _ {E S : Type 0} {rows : List (Row E S)} {side : Option ℕ} {row : Row E S} {p : ℕ} {t : Shape E S} (n : TopRow rows side row p t) {k : ℕ} (measured : depth_at rows side ≡ k) (below : Option ℕ) where

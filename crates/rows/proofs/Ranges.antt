@@ -1,7 +1,8 @@
 -- Parts of the list of a tree, and what they come to.
-use Rattle.std.proofs.Common.{◌≡◌, ℕ, zero, suc, ◌+◌, ◌-◌, ◌<◌, ◌≤◌, List, [], ◌∷◌, ◌++◌, length, take, drop, sym, refl, ap, ◌∙◌, arith, length-drop, take_all}
+use Rattle.std.proofs.Common.{◌≡◌, ℕ, zero, suc, ◌+◌, ◌-◌, ◌<◌, ◌≤◌, List, [], ◌∷◌, ◌++◌, length, drop, sym, refl, ap, ◌∙◌, arith, length-drop, take_all}
 use lib.Seq.{take-append-le, drop-append-le, take-append-add, drop-append-add}
 use Rattle.std.specs.List.{slice_get, between}
+use Rattle.std.proofs.lemmas.Slice.{between_to_end}
 use Rattle.kinds.specs.Rules.{Rule, Laws, summary}
 use Rattle.kinds.proofs.Summaries.{summary_append, summary_cons}
 use Rattle.rows.specs.Shape.{Shape, leaf, node, stored, elements, Told, Summed}
@@ -51,7 +52,7 @@ module _ {E : Type 0} (xs ys : List E) (x : E) (i j : ℕ) where
       rw (a, drop-append-le i xs (x ∷ ys) h, take-append-add (drop i xs) (x ∷ ys) (suc v), take_all (length xs - i) (drop i xs) b, c)
 
 pub between_all : {E : Type 0} (xs : List E) (i j : ℕ) → i ≡ 0 → j ≡ length xs → between i j xs ≡ xs
-between_all xs i j h k = let a : length xs ≤ j - i = omega arith in ap (λ z. take (j - i) (drop z xs)) h ∙ take_all (j - i) xs a
+between_all xs i j h k = between_to_end xs i j (omega arith) ∙ ap (λ z. drop z xs) h
 
 pub nth_left : {E : Type 0} (xs ys : List E) (i : ℕ) → i < length xs → slice_get (xs ++ ys) i ≡ slice_get xs i
 nth_left [] ys i h = absurd (omega arith)

@@ -1,8 +1,7 @@
 -- What is left of a tree when a row is taken out.
-use Rattle.std.proofs.Common.{◌≡◌, ℕ, suc, ◌+◌, ◌<◌, ◌≤◌, List, ◌∷◌, ◌++◌, length, take, drop, Some, Option, sym, refl, ap, ◌∙◌, append_assoc, arith}
-use lib.Seq.{take-append-le, drop-append-le, take-append-add, drop-append-add, take-append_seam}
+use Rattle.std.proofs.Common.{◌≡◌, ℕ, suc, ◌+◌, ◌-◌, ◌<◌, List, ◌∷◌, ◌++◌, length, Some, Option, sym, refl, ap, ◌∙◌, arith}
 use Rattle.std.specs.List.{remove}
-use Rattle.std.proofs.lemmas.List.Edits.{length-remove}
+use Rattle.std.proofs.lemmas.List.Edits.{length-remove, remove-append_right}
 use Rattle.kinds.specs.Rules.{Rule}
 use Rattle.rows.specs.Edits.{Rebalanced, Whole, Taken, RemovedFirst}
 use Rattle.rows.specs.Shape.{Shape, Cell, leaf, node, count_of, depth_of, elements, times, Rooted}
@@ -11,21 +10,17 @@ use Rattle.rows.proofs.Frames.{same_self, same_at, lies_within}
 use Rattle.rows.proofs.Nodes.{length_elements}
 use Rattle.rows.proofs.SideEdits.{Beside, done_left, done_right}
 
--- a removal in front of x, behind it, or of x itself
+-- a removal behind x, or of x itself
 module _ {E : Type 0} (xs ys : List E) (x : E) (i : ℕ) where
-  pub removed_left : i < length xs → remove (xs ++ (x ∷ ys)) i ≡ remove xs i ++ (x ∷ ys)
-  removed_left h =
-      let a : i ≤ length xs = omega arith in
-      let b : suc i ≤ length xs = omega arith in
-      rw (take-append-le i xs (x ∷ ys) a, drop-append-le (suc i) xs (x ∷ ys) b) (sym (append_assoc (take i xs) (drop (suc i) xs) (x ∷ ys)))
-
   pub removed_right : (j : ℕ) → i ≡ length xs + suc j → remove (xs ++ (x ∷ ys)) i ≡ xs ++ (x ∷ remove ys j)
   removed_right j h =
-      let k : suc i ≡ length xs + suc (suc j) = omega arith in
-      rw (k, h, take-append-add xs (x ∷ ys) (suc j), drop-append-add xs (x ∷ ys) (suc (suc j))) (append_assoc xs (x ∷ take j ys) (drop (suc j) ys))
+      let n : i - length xs ≡ suc j = omega arith in
+      remove-append_right xs (x ∷ ys) (length xs) i refl (omega arith) ∙ ap (λ z. xs ++ remove (x ∷ ys) z) n
 
   pub removed_mid : i ≡ length xs → remove (xs ++ (x ∷ ys)) i ≡ xs ++ ys
-  removed_mid h = let k : suc i ≡ length xs + 1 = omega arith in rw (k, h, take-append_seam xs (x ∷ ys), drop-append-add xs (x ∷ ys) 1)
+  removed_mid h =
+      let n : i - length xs ≡ 0 = omega arith in
+      remove-append_right xs (x ∷ ys) (length xs) i refl (omega arith) ∙ ap (λ z. xs ++ remove (x ∷ ys) z) n
 
 pub count_removed : {E S : Type 0} (t : Shape E S) (i : ℕ) → i < count_of t → length (remove (elements t) i) + 1 ≡ count_of t
 count_removed t i h = omega (arith, length_elements t, length-remove (elements t) i (omega (arith, length_elements t)))
@@ -33,14 +28,10 @@ count_removed t i h = omega (arith, length_elements t, length-remove (elements t
 module _ {E S : Type 0} {rows : List (Row E S)} {top : Option ℕ} {p : ℕ} {x : Cell E S} {l r : Shape E S} (o : Whole rows top (node p x l r)) where
   pub whole_left : {side : Option ℕ} → Rooted rows side l → Whole rows side l
   whole_left s =
-      let f = o.few in
-      let w = o.low in
       record { rooted = s; balanced = o.balanced.2; apart = λ k. omega (arith, o.apart k); few = omega arith; low = omega arith }
 
   pub whole_right : {side : Option ℕ} → Rooted rows side r → Whole rows side r
   whole_right s =
-      let f = o.few in
-      let w = o.low in
       record { rooted = s; balanced = o.balanced.3; apart = λ k. omega (arith, o.apart k); few = omega arith; low = omega arith }
 
   module _ {m : Rule E S} {more : List (Row E S)} {rest : Option ℕ} (place : ℕ) {xs : List E} where
@@ -63,12 +54,6 @@ module _ {E S : Type 0} {rows : List (Row E S)} {top : Option ℕ} {p : ℕ} {x 
 
     pub taken_left : (u : Taken m rows more rest place xs l) {right : Option ℕ} → Beside u p right r → times place l ≡ 1 → {y : E} {ys : List E} → xs ++ (y ∷ elements r) ≡ ys → {last : List (Row E S)} {new : ℕ} → Rebalanced m more last p y new u.t r → Taken m rows last (Some new) place ys (node p x l r)
     taken_left u b th list a =
-        let b0 = o.balanced.0 in
-        let b1 = o.balanced.1 in
-        let lo = u.at_least in
-        let hi = u.at_most in
-        let vlo = a.edit.at_least in
-        let vhi = a.edit.at_most in
         done_left b (λ k z. (omega arith, omega arith)) (λ k. omega (arith, same_at k place l th)) (λ t. (t.1, t.2)) a list (grind (arith, a.exact)) (grind (arith, a.exact))
 
     -- the row was on the right
@@ -90,12 +75,6 @@ module _ {E S : Type 0} {rows : List (Row E S)} {top : Option ℕ} {p : ℕ} {x 
 
     pub taken_right : (u : Taken m rows more rest place xs r) {left : Option ℕ} → Beside u p left l → times place r ≡ 1 → {y : E} {ys : List E} → elements l ++ (y ∷ xs) ≡ ys → {last : List (Row E S)} {new : ℕ} → Rebalanced m more last p y new l u.t → Taken m rows last (Some new) place ys (node p x l r)
     taken_right u b th list a =
-        let b0 = o.balanced.0 in
-        let b1 = o.balanced.1 in
-        let lo = u.at_least in
-        let hi = u.at_most in
-        let vlo = a.edit.at_least in
-        let vhi = a.edit.at_most in
         done_right b (λ k z. (omega arith, omega arith)) (λ k. omega (arith, same_at k place r th)) (λ t. (t.2, t.1)) a list (grind (arith, a.exact)) (grind (arith, a.exact))
 
     -- the row that was on the right takes the place of p
@@ -117,12 +96,6 @@ module _ {E S : Type 0} {rows : List (Row E S)} {top : Option ℕ} {p : ℕ} {x 
 
     pub taken_mid : (u : Taken m rows more rest place xs r) {left : Option ℕ} → Beside u place left l → times place r ≡ 1 → {y : E} {ys : List E} → elements l ++ (y ∷ xs) ≡ ys → {last : List (Row E S)} {new : ℕ} → Rebalanced m more last place y new l u.t → Taken m rows last (Some new) p ys (node p x l r)
     taken_mid u b th list a =
-        let b0 = o.balanced.0 in
-        let b1 = o.balanced.1 in
-        let lo = u.at_least in
-        let hi = u.at_most in
-        let vlo = a.edit.at_least in
-        let vhi = a.edit.at_most in
         done_right b (λ k z. (omega arith, omega (arith, same_at k place r th))) (λ k. omega (arith, same_at k place r th)) (λ t. (t.2, t.1)) a list (grind (arith, a.exact)) (grind (arith, a.exact))
 
   -- nothing is on the right of p

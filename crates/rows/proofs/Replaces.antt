@@ -3,7 +3,7 @@ use Rattle.std.proofs.Common.{◌≡◌, ℕ, suc, ◌+◌, ◌-◌, ◌<◌, Li
 use Rattle.std.proofs.lemmas.List.{set-append_left, set-append_right, set_at}
 use Rattle.kinds.specs.Rules.{Rule}
 use Rattle.rows.specs.Edits.{Refreshed, Sides, Edit, Whole, Replaced}
-use Rattle.rows.specs.Shape.{Shape, Cell, leaf, node, count_of, depth_of, elements, times, node_of, Balanced, Rooted, Told}
+use Rattle.rows.specs.Shape.{Shape, Cell, node, count_of, depth_of, elements, times, node_of, Balanced, Rooted, Told}
 use Rattle.rows.specs.declared.Row.{Row}
 use Rattle.rows.proofs.Frames.{same_self, lies_kept, put_node, long_put, kept_put}
 use Rattle.rows.proofs.Nodes.{length_elements}
@@ -30,8 +30,6 @@ module _ {E S : Type 0} {rows : List (Row E S)} {top : Option ℕ} {p : ℕ} {x 
 
     pub alike_sides : Sides more left right
     alike_sides =
-        let f = o.few in
-        let w = o.low in
         record { l = s; r = t; left_is = b.left_is; right_is = b.right_is; few = omega (arith, b.left_count, b.right_count); low = omega (arith, b.left_depth, b.right_depth) }
 
     pub rewritten : {m : Rule E S} {e : E} {last : List (Row E S)} → Refreshed m more p e s t last → {xs : List E} → elements s ++ (e ∷ elements t) ≡ xs → (Told m (node p x l r) → Told m s × Told m t)
@@ -39,10 +37,6 @@ module _ {E S : Type 0} {rows : List (Row E S)} {top : Option ℕ} {p : ℕ} {x 
     rewritten {m} {e} w holds told =
         let h = o.apart p in
         let z = same_self p in
-        let b0 = o.balanced.0 in
-        let b1 = o.balanced.1 in
-        let hl = b.left_depth in
-        let hr = b.right_depth in
         record {
           t = node_of m p e s t;
           rooted = (o.rooted.0, put_node w alike_within (omega (arith, b.left_places p, b.right_places p)) b.left_is.1 b.right_is.1);
@@ -130,6 +124,3 @@ module _ {E S : Type 0} {rows : List (Row E S)} {top : Option ℕ} {p : ℕ} {x 
           (ap (λ z. elements l ++ (y ∷ z)) d.holds ∙ ap (λ z. elements l ++ (z ∷ set (elements r) j e)) y-is ∙ ap (λ z. elements l ++ set (x.element ∷ elements r) z e) (sym n)
           ∙ sym (set-append_right (elements l) (x.element ∷ elements r) (length (elements l)) i e refl (omega (arith, length_elements l))))
           (λ t. (t.1, d.told t.2))
-
-pub replaced_leaf : {E S : Type 0} (m : Rule E S) (rows : List (Row E S)) (side : Option ℕ) (i : ℕ) (e : E) → Rooted rows side leaf → Replaced m rows rows i e side leaf
-replaced_leaf m rows side i e s = record { t = leaf; rooted = s; balanced = tt; at_least = omega arith; at_most = omega arith; places = λ k. refl; holds = refl; long = refl; kept = λ k d z. refl; told = λ h. h }

@@ -1,15 +1,14 @@
 -- A row is put over two sides: as they are, or by a single or a double rotation.
-use Rattle.std.proofs.Common.{◌≡◌, ℕ, ◌+◌, ◌<◌, ◌≤◌, max, List, ◌∷◌, ◌++◌, length, Some, Option, sym, refl, ap, ◌∙◌, subst, subst₂, append_assoc, arith}
+use Rattle.std.proofs.Common.{◌≡◌, ℕ, ◌+◌, ◌<◌, ◌≤◌, List, Some, Option, sym, refl, ap, ◌∙◌, arith}
 use Rattle.kinds.specs.Rules.{Rule}
-use Rattle.rows.specs.Shape.{Shape, Cell, node, link, count_of, depth_of, elements, same, times, node_of, Lies, Rooted}
-use Rattle.rows.specs.Edits.{Sides, Refreshed, Rebalance, Rebalanced}
+use Rattle.rows.specs.Edits.{Sides, Refreshed, Edit, Rebalance, TooDeep, Rebalanced}
+use Rattle.rows.specs.Hands.{left_by, right_by}
+use Rattle.rows.specs.Shape.{Shape, count_of, depth_of, elements, same, times, node_of, Rooted, Told}
 use Rattle.rows.specs.declared.Row.{Row}
-use Rattle.rows.proofs.Nodes.{opened}
+use Rattle.rows.specs.declared.balance.Hand.{Hand}
+use Rattle.rows.specs.declared.balance.Hand.TheVariants.{Left, Right}
 use Rattle.rows.proofs.Frames.{same_self, lies_put, put_node, within_put, long_put, kept_put}
-
--- the sides of a row that is put over parts of a tree that it was to be put over
-pub part_sides : {E S : Type 0} {rows more : List (Row E S)} {p : ℕ} {left right a b : Option ℕ} {l r : Shape E S} (o : Rebalance rows p left right l r) (u v : Shape E S) → count_of u + count_of v ≤ count_of l + count_of r + 2 → depth_of u ≤ max (depth_of l) (depth_of r) + 2 → depth_of v ≤ max (depth_of l) (depth_of r) + 2 → Rooted more a u → Rooted more b v → Sides more a b
-part_sides o u v n hu hv su sv = let f = o.few in let w = o.low in record { l = u; r = v; left_is = su; right_is = sv; few = omega arith; low = omega arith }
+use Rattle.rows.proofs.Hands.{list_by, regrouped, over, comes_over, balanced_over, told_over, put_over, Opened}
 
 module _ {E S : Type 0} {rows : List (Row E S)} {p : ℕ} {left right : Option ℕ} {l r : Shape E S} (o : Rebalance rows p left right l r) where
   pub refreshed : {m : Rule E S} {more : List (Row E S)} {e : E} → Refreshed m rows p e l r more → depth_of l ≤ depth_of r + 1 → depth_of r ≤ depth_of l + 1 → Rebalanced m rows more p e p l r
@@ -32,271 +31,125 @@ module _ {E S : Type 0} {rows : List (Row E S)} {p : ℕ} {left right : Option �
         exact = λ i j. omega arith;
       }
 
--- two rows to be written, p over u and v, and then q over that and the side y
-pub record Single {E S : Type 0} (rows : List (Row E S)) (p q : ℕ) (u v y : Shape E S) : Type 0 where
-  pub places : (k : ℕ) → times k u + times k v + times k y + same k p + same k q ≤ 1
-  pub p_within : p < length rows
-  pub q_within : q < length rows
-  pub u_lies : Lies rows u
-  pub v_lies : Lies rows v
-  pub y_lies : Lies rows y
+  pub too_deep : {q : ℕ} → left ≡ Some q → depth_of r + 2 ≤ depth_of l → TooDeep rows p (Some q) right l r
+  too_deep at deep =
+      record { within = o.within; deep_is = (sym at ∙ o.left_is.0, o.left_is.1); other_is = o.right_is; deep_balanced = o.left_balanced; other_balanced = o.right_balanced; tall = omega arith; places = o.places; few = o.few; low = omega arith }
 
-module _ {E S : Type 0} {m : Rule E S} {rows one : List (Row E S)} {p q : ℕ} {u v y : Shape E S} (o : Single rows p q u v y) {e : E} (w : Refreshed m rows p e u v one) where
-  pub single_inner : Lies one (node_of m p e u v)
-  single_inner =
-      let h = o.places p in
-      let s = same_self p in
-      put_node w o.p_within (omega arith) o.u_lies o.v_lies
+-- a rotation by a hand is one of the two sides
+abbrev Turned : {E S : Type 0} → Hand → Rule E S → List (Row E S) → List (Row E S) → ℕ → E → ℕ → Shape E S → Shape E S → Type 0
+Turned h m rows last p e top t r = Edit m rows last (Some top) (λ k. times k t + times k r + same k p) (λ k. times k t + times k r + same k p) (list_by h (elements t) e (elements r)) (depth_of t) (depth_of t + 1) (Told m t × Told m r)
 
-  pub single_outer : Lies one y
-  single_outer =
-      let h = o.places p in
-      let s = same_self p in
-      lies_put w y (omega arith) o.y_lies
+turned : {E S : Type 0} (h : Hand) {m : Rule E S} {rows last : List (Row E S)} {p top : ℕ} {e : E} (t r : Shape E S) → depth_of t ≡ depth_of r + 2 → Turned h m rows last p e top t r → Rebalanced m rows last p e top (left_by h t r) (right_by h t r)
+turned Left t r tall u =
+    record { edit = record { t = u.t; rooted = u.rooted; balanced = u.balanced; at_least = omega arith; at_most = omega arith; places = u.places; holds = u.holds; long = u.long; kept = u.kept; told = u.told }; exact = λ i j. omega arith }
+turned Right t r tall u =
+    record {
+      edit = record { t = u.t; rooted = u.rooted; balanced = u.balanced; at_least = omega arith; at_most = omega arith; places = λ k. omega (arith, u.places k); holds = u.holds; long = u.long; kept = λ k d z. u.kept k d (omega arith); told = λ s. u.told (s.1, s.0) };
+      exact = λ i j. omega arith;
+    }
 
-  -- a and b are the node over p and y, on either side
-  pub single_top : {last : List (Row E S)} {f : E} (a b : Shape E S) → Refreshed m one q f a b last → ((k : ℕ) → times k a + times k b ≡ times k u + times k v + times k y + same k p) → Lies one a → Lies one b → Lies last (node_of m q f a b)
-  single_top a b w2 sum ka kb =
-      let h = o.places q in
-      let s = same_self q in
-      let t = sum q in
-      put_node w2 (within_put w q o.q_within) (omega arith) ka kb
+-- t is too deep, and is taken apart at its top q
+module _ {E S : Type 0} {rows : List (Row E S)} {p q : ℕ} {side other outer inner : Option ℕ} {h : Hand} {f : E} {t r : Shape E S} (o : TooDeep rows p side other t r) (n : Opened h rows q f outer inner t) where
+  -- the sides of a row that is put over parts of these trees
+  part_sides : {more : List (Row E S)} {a b : Option ℕ} (u v : Shape E S) → count_of u + count_of v ≤ count_of t + count_of r + 2 → depth_of u ≤ depth_of t + 2 → depth_of v ≤ depth_of t + 2 → Rooted more a u → Rooted more b v → Sides more a b
+  part_sides u v count du dv su sv = record { l = u; r = v; left_is = su; right_is = sv; few = omega arith; low = omega arith }
 
--- three rows to be written, p over u and v, q over x and y, and then s over both
-pub record Double {E S : Type 0} (rows : List (Row E S)) (p q s : ℕ) (u v x y : Shape E S) : Type 0 where
-  pub places : (k : ℕ) → times k u + times k v + times k x + times k y + same k p + same k q + same k s ≤ 1
-  pub p_within : p < length rows
-  pub q_within : q < length rows
-  pub s_within : s < length rows
-  pub u_lies : Lies rows u
-  pub v_lies : Lies rows v
-  pub x_lies : Lies rows x
-  pub y_lies : Lies rows y
+  pub single_sides : Sides rows inner other
+  single_sides = part_sides n.v r (omega arith) (omega arith) (omega arith) n.far_is o.other_is
 
-module _ {E S : Type 0} {m : Rule E S} {rows one : List (Row E S)} {p q s : ℕ} {u v x y : Shape E S} (o : Double rows p q s u v x y) {e : E} (w1 : Refreshed m rows p e u v one) where
-  pub double_x : Lies one x
-  double_x =
-      let h = o.places p in
-      let z = same_self p in
-      lies_put w1 x (omega arith) o.x_lies
+  -- neither p nor q stands in what is put over them
+  p_apart : times p n.u + times p n.v + times p r + same p q ≡ 0
+  p_apart = omega (arith, o.places p, n.comes.places p, same_self p)
 
-  pub double_y : Lies one y
-  double_y =
-      let h = o.places p in
-      let z = same_self p in
-      lies_put w1 y (omega arith) o.y_lies
+  q_apart : times q n.u + times q n.v + times q r + same q p ≡ 0
+  q_apart = omega (arith, o.places q, n.comes.places q, same_self q)
 
-  module _ {two : List (Row E S)} {f : E} (w2 : Refreshed m one q f x y two) where
-    pub double_p : Lies two (node_of m p e u v)
-    double_p =
-        let h = o.places p in
-        let z = same_self p in
-        let i = o.places q in
-        let j = same_self q in
-        lies_put w2 (node_of m p e u v) (omega arith) (put_node w1 o.p_within (omega arith) o.u_lies o.v_lies)
+  -- p was written over any trees
+  pub outer_stays : {m : Rule E S} {e : E} {one : List (Row E S)} {x y : Shape E S} → Refreshed m rows p e x y one → Rooted one outer n.u
+  outer_stays w1 = (n.near_is.0, lies_put w1 n.u (omega (arith, p_apart)) n.near_is.1)
 
-    pub double_q : Lies two (node_of m q f x y)
-    double_q =
-        let i = o.places q in
-        let j = same_self q in
-        put_node w2 (within_put w1 q o.q_within) (omega arith) double_x double_y
+  module _ {m : Rule E S} {e : E} {one : List (Row E S)} (w1 : Refreshed m rows p e (left_by h n.v r) (right_by h n.v r) one) where
+    abbrev moved : Shape E S
+    moved = over h m p e n.v r
 
-    -- a and b are the nodes at p and q, in either order
-    pub double_top : {last : List (Row E S)} {g : E} (a b : Shape E S) → Refreshed m two s g a b last → ((k : ℕ) → times k a + times k b ≡ times k u + times k v + times k x + times k y + same k p + same k q) → Lies two a → Lies two b → Lies last (node_of m s g a b)
-    double_top a b w3 sum ka kb =
-        let h = o.places s in
-        let z = same_self s in
-        let t = sum s in
-        put_node w3 (within_put w2 s (within_put w1 s o.s_within)) (omega arith) ka kb
+    pub moved_is : Rooted one (Some p) moved
+    moved_is = (refl, put_over h n.v r w1 o.within (omega (arith, p_apart)) n.far_is.1 o.other_is.1)
 
--- the left side, with x over a and b, is too deep by two
-module _ {E S : Type 0} {rows : List (Row E S)} {p q : ℕ} {left right : Option ℕ} {x : Cell E S} {a b r : Shape E S} (o : Rebalance rows p left right (node q x a b) r) where
-  pub single_right : Single rows p q b r a
-  single_right =
-      let k = o.left_is.1 in
-      record { places = λ i. omega (arith, o.places i); p_within = o.within; q_within = k.0; u_lies = k.3; v_lies = o.right_is.1; y_lies = k.2 }
+    pub single_top_sides : Sides one outer (Some p)
+    single_top_sides =
+        let v = comes_over h m p e n.v r in
+        part_sides n.u moved (omega (arith, v.count)) (omega arith) (omega (arith, v.depth)) (outer_stays w1) moved_is
 
-  pub rotated_right : depth_of r + 1 < depth_of (node q x a b) → {m : Rule E S} {one last : List (Row E S)} {e f : E} → Refreshed m rows p e b r one → f ≡ x.element → Refreshed m one q f a (node_of m p e b r) last → depth_of b ≤ depth_of a → Rebalanced m rows last p e q (node q x a b) r
-  rotated_right tall {m} {e} {f} w1 f-is w2 deep =
-      let bal = o.left_balanced in
-      let b0 = bal.0 in
-      let b1 = bal.1 in
-      let n = o.near_left in
-      let inner = node_of m p e b r in
-      record {
-        edit = record {
-          t = node_of m q f a inner;
-          rooted = (refl, single_top single_right w1 a inner w2 (λ k. omega arith) (single_outer single_right w1) (single_inner single_right w1));
-          balanced = (omega arith, omega arith, bal.2, (omega arith, omega arith, bal.3, o.right_balanced));
+    pub rotated : {last : List (Row E S)} → depth_of n.v ≤ depth_of n.u → Refreshed m one q f (left_by h n.u moved) (right_by h n.u moved) last → Rebalanced m rows last p e q (left_by h t r) (right_by h t r)
+    rotated deeper w2 =
+        let inside = comes_over h m p e n.v r in
+        let whole = comes_over h m q f n.u moved in
+        turned h t r o.tall (record {
+          t = over h m q f n.u moved;
+          rooted = (refl, put_over h n.u moved w2 (within_put w1 q n.within) (omega (arith, q_apart, inside.places q)) (outer_stays w1).1 moved_is.1);
+          balanced = balanced_over h m q f n.u moved (omega arith) (omega arith) n.near_balanced (balanced_over h m p e n.v r (omega arith) (omega arith) n.far_balanced o.other_balanced);
           at_least = omega arith;
           at_most = omega arith;
-          places = λ k. omega arith;
-          holds = ap (λ z. elements a ++ (z ∷ (elements b ++ (e ∷ elements r)))) f-is ∙ sym (append_assoc (elements a) (x.element ∷ elements b) (e ∷ elements r));
+          places = λ k. omega (arith, whole.places k, inside.places k, n.comes.places k);
+          holds = whole.list ∙ ap (λ z. list_by h (elements n.u) f z) inside.list ∙ regrouped h (elements n.u) f (elements n.v) e (elements r) ∙ ap (λ z. list_by h z e (elements r)) (sym n.comes.list);
           long = long_put w1 ∙ long_put w2;
-          kept = λ k d z. kept_put w2 k d (omega arith) ∙ kept_put w1 k d (omega arith);
-          told = λ t. (refl, t.0.1, (refl, t.0.2, t.1));
-        };
-        exact = λ i j. omega arith;
-      }
+          kept = λ k d z. kept_put w2 k d (omega (arith, n.comes.places k)) ∙ kept_put w1 k d (omega arith);
+          told = λ s. let part = n.told m s.0 in told_over h m q f n.u moved part.0 (told_over h m p e n.v r part.1 s.1);
+        })
 
--- the inner side b has its top at s
-pub record InnerRight {E S : Type 0} (rows : List (Row E S)) (p q s : ℕ) (left right : Option ℕ) (x : Cell E S) (a b r : Shape E S) : Type 0 where
-  pub y : Cell E S
-  pub c : Shape E S
-  pub d : Shape E S
-  pub is : b ≡ node s y c d
-  pub whole : Rebalance rows p left right (node q x a (node s y c d)) r
+-- the same where the inner part is the deeper one, and is taken apart at its top s
+module _ {E S : Type 0} {rows : List (Row E S)} {p q s : ℕ} {side other outer inner near far : Option ℕ} {h : Hand} {f g : E} {t r : Shape E S} (o : TooDeep rows p side other t r) (n : Opened h rows q f outer inner t) (i : Opened h rows s g near far n.v) where
+  pub double_sides : Sides rows far other
+  double_sides = part_sides o n i.v r (omega arith) (omega arith) (omega arith) i.far_is o.other_is
 
-pub inner_right : {E S : Type 0} {rows : List (Row E S)} {p q s : ℕ} {left right side : Option ℕ} {x : Cell E S} {a b r : Shape E S} → Rebalance rows p left right (node q x a b) r → side ≡ Some s → side ≡ link b → InnerRight rows p q s left right x a b r
-inner_right {rows} {p} {q} {s} {left} {right} {x} {a} {b} {r} o at leads =
-    let n = opened b s (sym at ∙ leads) in
-    record { y = n.x; c = n.l; d = n.r; is = n.is; whole = subst (λ z. Rebalance rows p left right (node q x a z) r) n.is o }
+  module _ {m : Rule E S} {e : E} {one : List (Row E S)} (w1 : Refreshed m rows p e (left_by h i.v r) (right_by h i.v r) one) where
+    abbrev p_over : Shape E S
+    p_over = over h m p e i.v r
 
--- the same where the inner side is the deeper one
-module _ {E S : Type 0} {rows : List (Row E S)} {p q s : ℕ} {left right : Option ℕ} {x y : Cell E S} {a c d r : Shape E S} (o : Rebalance rows p left right (node q x a (node s y c d)) r) where
-  pub double_right : Double rows p q s d r a c
-  double_right =
-      let k = o.left_is.1 in
-      record { places = λ i. omega (arith, o.places i); p_within = o.within; q_within = k.0; s_within = k.3.0; u_lies = k.3.3; v_lies = o.right_is.1; x_lies = k.2; y_lies = k.3.2 }
+    pub double_near : Rooted one near i.u
+    double_near = (i.near_is.0, lies_put w1 i.u (omega (arith, p_apart o n, i.comes.places p)) i.near_is.1)
 
-  pub twice_rotated_right : depth_of r + 1 < depth_of (node q x a (node s y c d)) → depth_of a < depth_of (node s y c d) → {m : Rule E S} {one two last : List (Row E S)} {e f g : E} → Refreshed m rows p e d r one → f ≡ x.element → Refreshed m one q f a c two → g ≡ y.element → Refreshed m two s g (node_of m q f a c) (node_of m p e d r) last → Rebalanced m rows last p e s (node q x a (node s y c d)) r
-  twice_rotated_right tall deeper {m} {e} {f} {g} w1 f-is w2 g-is w3 =
-      let bal = o.left_balanced in
-      let b0 = bal.0 in
-      let b1 = bal.1 in
-      let c0 = bal.3.0 in
-      let c1 = bal.3.1 in
-      let n = o.near_left in
-      let np = node_of m p e d r in
-      let nq = node_of m q f a c in
-      record {
-        edit = record {
-          t = node_of m s g nq np;
-          rooted = (refl, double_top double_right w1 w2 nq np w3 (λ k. omega arith) (double_q double_right w1 w2) (double_p double_right w1 w2));
-          balanced = (omega arith, omega arith, (omega arith, omega arith, bal.2, bal.3.2), (omega arith, omega arith, bal.3.3, o.right_balanced));
-          at_least = omega arith;
-          at_most = omega arith;
-          places = λ k. omega arith;
-          holds = simp (append_assoc, f-is, g-is);
-          long = long_put w1 ∙ long_put w2 ∙ long_put w3;
-          kept = λ k z no. kept_put w3 k z (omega arith) ∙ kept_put w2 k z (omega arith) ∙ kept_put w1 k z (omega arith);
-          told = λ t. (refl, (refl, t.0.1, t.0.2.1), (refl, t.0.2.2, t.1));
-        };
-        exact = λ i j. omega arith;
-      }
+    pub double_q_sides : Sides one outer near
+    double_q_sides = part_sides o n n.u i.u (omega arith) (omega arith) (omega arith) (outer_stays o n w1) double_near
 
--- the mirrors: the right side, with x over a and b, is too deep by two
-module _ {E S : Type 0} {rows : List (Row E S)} {p q : ℕ} {left right : Option ℕ} {x : Cell E S} {a b l : Shape E S} (o : Rebalance rows p left right l (node q x a b)) where
-  pub single_left : Single rows p q l a b
-  single_left =
-      let k = o.right_is.1 in
-      record { places = λ i. omega (arith, o.places i); p_within = o.within; q_within = k.0; u_lies = o.left_is.1; v_lies = k.2; y_lies = k.3 }
+    module _ {two : List (Row E S)} (w2 : Refreshed m one q f (left_by h n.u i.u) (right_by h n.u i.u) two) where
+      abbrev q_over : Shape E S
+      q_over = over h m q f n.u i.u
 
-  pub rotated_left : depth_of l + 1 < depth_of (node q x a b) → {m : Rule E S} {one last : List (Row E S)} {e f : E} → Refreshed m rows p e l a one → f ≡ x.element → Refreshed m one q f (node_of m p e l a) b last → depth_of a ≤ depth_of b → Rebalanced m rows last p e q l (node q x a b)
-  rotated_left tall {m} {e} {f} w1 f-is w2 deep =
-      let bal = o.right_balanced in
-      let b0 = bal.0 in
-      let b1 = bal.1 in
-      let n = o.near_right in
-      let inner = node_of m p e l a in
-      record {
-        edit = record {
-          t = node_of m q f inner b;
-          rooted = (refl, single_top single_left w1 inner b w2 (λ k. omega arith) (single_inner single_left w1) (single_outer single_left w1));
-          balanced = (omega arith, omega arith, (omega arith, omega arith, o.left_balanced, bal.2), bal.3);
-          at_least = omega arith;
-          at_most = omega arith;
-          places = λ k. omega arith;
-          holds = simp (append_assoc, f-is);
-          long = long_put w1 ∙ long_put w2;
-          kept = λ k d z. kept_put w2 k d (omega arith) ∙ kept_put w1 k d (omega arith);
-          told = λ t. (refl, (refl, t.0, t.1.1), t.1.2);
-        };
-        exact = λ i j. omega arith;
-      }
+      pub double_p : Rooted two (Some p) p_over
+      double_p =
+          let apart : times q p_over ≡ 0 = omega (arith, q_apart o n, i.comes.places q, (comes_over h m p e i.v r).places q) in
+          (refl, lies_put w2 p_over apart (put_over h i.v r w1 o.within (omega (arith, p_apart o n, i.comes.places p)) i.far_is.1 o.other_is.1))
 
-pub record InnerLeft {E S : Type 0} (rows : List (Row E S)) (p q s : ℕ) (left right : Option ℕ) (x : Cell E S) (a b l : Shape E S) : Type 0 where
-  pub y : Cell E S
-  pub c : Shape E S
-  pub d : Shape E S
-  pub is : a ≡ node s y c d
-  pub whole : Rebalance rows p left right l (node q x (node s y c d) b)
+      pub double_q : Rooted two (Some q) q_over
+      double_q = (refl, put_over h n.u i.u w2 (within_put w1 q n.within) (omega (arith, q_apart o n, i.comes.places q)) (outer_stays o n w1).1 double_near.1)
 
-pub inner_left : {E S : Type 0} {rows : List (Row E S)} {p q s : ℕ} {left right side : Option ℕ} {x : Cell E S} {a b l : Shape E S} → Rebalance rows p left right l (node q x a b) → side ≡ Some s → side ≡ link a → InnerLeft rows p q s left right x a b l
-inner_left {rows} {p} {q} {s} {left} {right} {x} {a} {b} {l} o at leads =
-    let n = opened a s (sym at ∙ leads) in
-    record { y = n.x; c = n.l; d = n.r; is = n.is; whole = subst (λ z. Rebalance rows p left right l (node q x z b)) n.is o }
+      pub double_top_sides : Sides two (Some q) (Some p)
+      double_top_sides =
+          let u = comes_over h m q f n.u i.u in
+          let v = comes_over h m p e i.v r in
+          part_sides o n q_over p_over (omega (arith, u.count, v.count)) (omega (arith, u.depth)) (omega (arith, v.depth)) double_q double_p
 
-module _ {E S : Type 0} {rows : List (Row E S)} {p q s : ℕ} {left right : Option ℕ} {x y : Cell E S} {c d b l : Shape E S} (o : Rebalance rows p left right l (node q x (node s y c d) b)) where
-  pub double_left : Double rows p q s l c d b
-  double_left =
-      let k = o.right_is.1 in
-      record { places = λ i. omega (arith, o.places i); p_within = o.within; q_within = k.0; s_within = k.2.0; u_lies = o.left_is.1; v_lies = k.2.2; x_lies = k.2.3; y_lies = k.3 }
-
-  pub twice_rotated_left : depth_of l + 1 < depth_of (node q x (node s y c d) b) → depth_of b < depth_of (node s y c d) → {m : Rule E S} {one two last : List (Row E S)} {e f g : E} → Refreshed m rows p e l c one → f ≡ x.element → Refreshed m one q f d b two → g ≡ y.element → Refreshed m two s g (node_of m p e l c) (node_of m q f d b) last → Rebalanced m rows last p e s l (node q x (node s y c d) b)
-  twice_rotated_left tall deeper {m} {e} {f} {g} w1 f-is w2 g-is w3 =
-      let bal = o.right_balanced in
-      let b0 = bal.0 in
-      let b1 = bal.1 in
-      let c0 = bal.2.0 in
-      let c1 = bal.2.1 in
-      let n = o.near_right in
-      let np = node_of m p e l c in
-      let nq = node_of m q f d b in
-      record {
-        edit = record {
-          t = node_of m s g np nq;
-          rooted = (refl, double_top double_left w1 w2 np nq w3 (λ k. omega arith) (double_p double_left w1 w2) (double_q double_left w1 w2));
-          balanced = (omega arith, omega arith, (omega arith, omega arith, o.left_balanced, bal.2.2), (omega arith, omega arith, bal.2.3, bal.3));
-          at_least = omega arith;
-          at_most = omega arith;
-          places = λ k. omega arith;
-          holds = simp (append_assoc, f-is, g-is);
-          long = long_put w1 ∙ long_put w2 ∙ long_put w3;
-          kept = λ k z no. kept_put w3 k z (omega arith) ∙ kept_put w2 k z (omega arith) ∙ kept_put w1 k z (omega arith);
-          told = λ t. (refl, (refl, t.0, t.1.1.1), (refl, t.1.1.2, t.1.2));
-        };
-        exact = λ i j. omega arith;
-      }
-
--- a side that is too deep by two has its top at q
-pub record TooDeepLeft {E S : Type 0} (rows : List (Row E S)) (p q : ℕ) (right : Option ℕ) (l r : Shape E S) : Type 0 where
-  pub x : Cell E S
-  pub a : Shape E S
-  pub b : Shape E S
-  pub is : l ≡ node q x a b
-  pub whole : Rebalance rows p (Some q) right (node q x a b) r
-  pub tall : depth_of r + 1 < depth_of (node q x a b)
-
-pub record TooDeepRight {E S : Type 0} (rows : List (Row E S)) (p q : ℕ) (left : Option ℕ) (l r : Shape E S) : Type 0 where
-  pub x : Cell E S
-  pub a : Shape E S
-  pub b : Shape E S
-  pub is : r ≡ node q x a b
-  pub whole : Rebalance rows p left (Some q) l (node q x a b)
-  pub tall : depth_of l + 1 < depth_of (node q x a b)
-
-module _ {E S : Type 0} {rows : List (Row E S)} {p q : ℕ} {left right : Option ℕ} {l r : Shape E S} (o : Rebalance rows p left right l r) where
-  pub too_deep_left : left ≡ Some q → depth_of r + 1 < depth_of l → TooDeepLeft rows p q right l r
-  too_deep_left at tall =
-      let n = opened l q (sym at ∙ o.left_is.0) in
-      record {
-        x = n.x;
-        a = n.l;
-        b = n.r;
-        is = n.is;
-        whole = subst₂ (λ side z. Rebalance rows p side right z r) at n.is o;
-        tall = subst (λ z. depth_of r + 1 < depth_of z) n.is tall;
-      }
-
-  pub too_deep_right : right ≡ Some q → depth_of l + 1 < depth_of r → TooDeepRight rows p q left l r
-  too_deep_right at tall =
-      let n = opened r q (sym at ∙ o.right_is.0) in
-      record {
-        x = n.x;
-        a = n.l;
-        b = n.r;
-        is = n.is;
-        whole = subst₂ (λ side z. Rebalance rows p left side l z) at n.is o;
-        tall = subst (λ z. depth_of l + 1 < depth_of z) n.is tall;
-      }
+      pub twice_rotated : {last : List (Row E S)} → depth_of n.u < depth_of n.v → Refreshed m two s g (left_by h q_over p_over) (right_by h q_over p_over) last → Rebalanced m rows last p e s (left_by h t r) (right_by h t r)
+      twice_rotated deeper w3 =
+          let low = comes_over h m p e i.v r in
+          let up = comes_over h m q f n.u i.u in
+          let whole = comes_over h m s g q_over p_over in
+          let apart : times s q_over + times s p_over ≡ 0 = omega (arith, o.places s, n.comes.places s, i.comes.places s, same_self s, low.places s, up.places s) in
+          let xs = elements n.u in
+          let ys = elements i.u in
+          let zs = elements i.v in
+          turned h t r o.tall (record {
+            t = over h m s g q_over p_over;
+            rooted = (refl, put_over h q_over p_over w3 (within_put w2 s (within_put w1 s i.within)) apart double_q.1 double_p.1);
+            balanced = balanced_over h m s g q_over p_over (omega arith) (omega arith) (balanced_over h m q f n.u i.u (omega arith) (omega arith) n.near_balanced i.near_balanced) (balanced_over h m p e i.v r (omega arith) (omega arith) i.far_balanced o.other_balanced);
+            at_least = omega arith;
+            at_most = omega arith;
+            places = λ k. omega (arith, whole.places k, low.places k, up.places k, n.comes.places k, i.comes.places k);
+            holds = whole.list ∙ ap (λ z. list_by h z g (elements p_over)) up.list ∙ ap (λ z. list_by h (list_by h xs f ys) g z) low.list ∙ sym (regrouped h xs f ys g (list_by h zs e (elements r)))
+                ∙ ap (list_by h xs f) (regrouped h ys g zs e (elements r)) ∙ regrouped h xs f (list_by h ys g zs) e (elements r)
+                ∙ ap (λ z. list_by h (list_by h xs f z) e (elements r)) (sym i.comes.list) ∙ ap (λ z. list_by h z e (elements r)) (sym n.comes.list);
+            long = long_put w1 ∙ long_put w2 ∙ long_put w3;
+            kept = λ k d z. kept_put w3 k d (omega (arith, n.comes.places k, i.comes.places k)) ∙ kept_put w2 k d (omega (arith, n.comes.places k)) ∙ kept_put w1 k d (omega arith);
+            told = λ w. let part = n.told m w.0 in let far = i.told m part.1 in told_over h m s g q_over p_over (told_over h m q f n.u i.u part.0 far.0) (told_over h m p e i.v r far.1 w.1);
+          })

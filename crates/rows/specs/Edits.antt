@@ -45,6 +45,18 @@ pub record Rebalance {E S : Type 0} (rows : List (Row E S)) (p : ℕ) (left righ
   pub few : count_of l + count_of r < 65530
   pub low : max (depth_of l) (depth_of r) < 250
 
+-- such a row, where the side at `deep` is deeper by two than the one at `other`
+pub record TooDeep {E S : Type 0} (rows : List (Row E S)) (p : ℕ) (deep other : Option ℕ) (t r : Shape E S) : Type 0 where
+  pub within : p < length rows
+  pub deep_is : Rooted rows deep t
+  pub other_is : Rooted rows other r
+  pub deep_balanced : Balanced t
+  pub other_balanced : Balanced r
+  pub tall : depth_of t ≡ depth_of r + 2
+  pub places : (k : ℕ) → times k t + times k r + same k p ≤ 1
+  pub few : count_of t + count_of r < 65530
+  pub low : depth_of t < 250
+
 pub record Rebalanced {E S : Type 0} (m : Rule E S) (rows more : List (Row E S)) (p : ℕ) (e : E) (top : ℕ) (l r : Shape E S) : Type 0 where
   pub edit : Edit m rows more (Some top) (λ k. times k l + times k r + same k p) (λ k. times k l + times k r + same k p) (elements l ++ (e ∷ elements r)) (max (depth_of l) (depth_of r)) (max (depth_of l) (depth_of r) + 1) (Told m l × Told m r)
   pub exact : depth_of l ≤ depth_of r + 1 → depth_of r ≤ depth_of l + 1 → max (depth_of l) (depth_of r) + 1 ≤ depth_of edit.t

@@ -54,38 +54,40 @@ pub record Layout {E S : Type 0} (rows : List (Row E S)) (heads : Heads) (t : Sh
   pub small : heads.used ≤ 4096
   pub within : heads.used ≤ length rows
 
--- what the type of a tree says
-abbrev pub Sound : {E S : Type 0} → List (Row E S) → Heads → Type 0
-Sound rows heads = Layout rows heads (shape_of rows heads.top) (free_of rows heads.free)
+-- the rows lie as a tree and its free rows, where the heads lead
+abbrev pub Laid : {E S : Type 0} → List (Row E S) → Heads → Type 0
+Laid rows heads = Layout rows heads (shape_of rows heads.top) (free_of rows heads.free)
+
+-- what the type of a tree says: besides, each row of the tree stores the join of what its sides store
+pub record Sound {E S : Type 0} (m : Rule E S) (rows : List (Row E S)) (heads : Heads) : Type 0 where
+  pub laid : Laid rows heads
+  pub told : Told m (shape_of rows heads.top)
 
 -- The rows that are reached from `top` stand as a balanced tree of that depth over the list xs: each has its own place,
--- links, depth and count that are those of what lies below it and, where the rows are told, the summary of the
--- elements from it down.
-pub record Stands {E S : Type 0} (m : Rule E S) (rows : List (Row E S)) (top : Option ℕ) (xs : List E) (depth : ℕ) (told : Type 0) : Type 0 where
+-- links, depth and count that are those of what lies below it, and the summary of the elements from it down.
+pub record Stands {E S : Type 0} (m : Rule E S) (rows : List (Row E S)) (top : Option ℕ) (xs : List E) (depth : ℕ) : Type 0 where
   pub tree : Shape E S
   pub reached : Rooted rows top tree
   pub apart : (p : ℕ) → times p tree ≤ 1
   pub balanced : Balanced tree
   pub holds : elements tree ≡ xs
   pub deep : depth_of tree ≡ depth
-  pub summed : told → Summed m tree
+  pub summed : Summed m tree
 
 -- a tree that has room, and a place to insert at
-pub record HasRoom {E S : Type 0} (rows : List (Row E S)) (heads : Heads) (i : ℕ) (t : Shape E S) (fs : List ℕ) : Type 0 where
-  pub layout : Layout rows heads t fs
-  pub inside : i ≤ count_of t
-  pub room : count_of t < min (length rows) 4096
+pub record HasRoom {E S : Type 0} (rows : List (Row E S)) (heads : Heads) (i : ℕ) : Type 0 where
+  pub laid : Laid rows heads
+  pub inside : i ≤ length (list_of rows heads.top)
+  pub room : length (list_of rows heads.top) < room_of rows
 
 -- a tree that has an element at i
-pub record HasElement {E S : Type 0} (rows : List (Row E S)) (heads : Heads) (i : ℕ) (t : Shape E S) (fs : List ℕ) : Type 0 where
-  pub layout : Layout rows heads t fs
-  pub inside : i < count_of t
+pub record HasElement {E S : Type 0} (rows : List (Row E S)) (heads : Heads) (i : ℕ) : Type 0 where
+  pub laid : Laid rows heads
+  pub inside : i < length (list_of rows heads.top)
 
--- an edit of a whole tree has left the list xs
-pub record Edited {E S : Type 0} (m : Rule E S) (rows more : List (Row E S)) (heads : Heads) (xs : List E) (was : Type 0) : Type 0 where
-  pub t : Shape E S
-  pub fs : List ℕ
-  pub layout : Layout more heads t fs
-  pub holds : elements t ≡ xs
+-- an edit of a whole tree has left the list xs, and the summaries are told if they were before
+pub record Edited {E S : Type 0} (m : Rule E S) (rows more : List (Row E S)) (was heads : Heads) (xs : List E) : Type 0 where
+  pub laid : Laid more heads
+  pub holds : list_of more heads.top ≡ xs
   pub long : length rows ≡ length more
-  pub told : was → Told m t
+  pub told : Told m (shape_of rows was.top) → Told m (shape_of more heads.top)

@@ -1,4 +1,5 @@
 pub mod Shape
+pub mod Hands
 pub mod Edits
 pub mod FreeList
 pub mod Layouts

@@ -53,6 +53,11 @@ row_of x l r = record {
   count = count_of l + count_of r + 1;
 }
 
+-- the row at the top of a tree
+abbrev pub top_of : {E S : Type 0} → Shape E S → Option (Row E S)
+top_of leaf = None
+top_of (node p x l r) = Some (row_of x l r)
+
 -- each node of a tree has its row at its place
 abbrev pub Lies : {E S : Type 0} → List (Row E S) → Shape E S → Type 0
 Lies rows leaf = Unit {0}
@@ -81,6 +86,10 @@ node_of m p e l r = node p (cell_of m e l r) l r
 
 abbrev pub refreshed_row : {E S : Type 0} → Rule E S → E → Shape E S → Shape E S → Row E S
 refreshed_row m e l r = row_of (cell_of m e l r) l r
+
+-- a row that stands for nothing
+abbrev pub idle_row : {E S : Type 0} → Rule E S → E → Row E S
+idle_row m e = record { element = e; summary = m.unit; left = None; right = None; depth = 0; count = 0 }
 
 abbrev pub same : ℕ → ℕ → ℕ
 same p q = cond (p == q) 1 0

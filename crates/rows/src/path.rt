@@ -1,5 +1,5 @@
 // Edits and questions at a place of the list: each walks down from the top, and an edit refreshes the rows on its way
-// back.
+// back. The arms to the left and to the right are written out: they differ in the place that they pass on, besides the hand.
 ghost use Rattle.std.specs.Prelude.{◌≡◌, ℕ, ◌≤◌, ◌++◌, Some};
 ghost use Rattle.kinds.specs.Rules.{summary};
 ghost use Rattle.rows.specs.Edits.{Insert, Inserted, Whole, Taken, RemovedFirst, Remove, Removed, Replaced};
@@ -21,22 +21,18 @@ pub fn insert<K: Kind>(
     requires { (t : Shape K.Element K.Summary) × Insert rows.old top i fresh t }
     ensures { (t : Shape K.Element K.Summary) → Insert rows.old top i fresh t → Inserted K.Kind.rule rows.old rows.new i fresh element result t }
 {
-    match top {
-        None => {
-            refresh::<K>(rows, fresh, element, None, None);
-            fresh
-        }
-        Some(p) => {
-            let row = row_at(rows, p);
-            let before = count_of::<K>(rows, row.left);
-            if i <= before {
-                let left = insert::<K>(rows, row.left, i, fresh, element);
-                rebalance::<K>(rows, p, row.element, Some(left), row.right)
-            } else {
-                let right = insert::<K>(rows, row.right, i - before - 1, fresh, element);
-                rebalance::<K>(rows, p, row.element, row.left, Some(right))
-            }
-        }
+    let Some(place) = top else {
+        refresh::<K>(rows, fresh, element, None, None);
+        return fresh;
+    };
+    let row = row_at(rows, place);
+    let before = count_of::<K>(rows, row.left);
+    if i <= before {
+        let left = insert::<K>(rows, row.left, i, fresh, element);
+        rebalance::<K>(rows, place, row.element, Some(left), row.right)
+    } else {
+        let right = insert::<K>(rows, row.right, i - before - 1, fresh, element);
+        rebalance::<K>(rows, place, row.element, row.left, Some(right))
     }
 }
 
@@ -48,26 +44,26 @@ pub struct First<E> {
     pub rest: Option<u16>,
 }
 
-pub fn remove_first<K: Kind>(rows: &mut [Row<K::Element, K::Summary>], p: u16) -> First<K::Element>
-    requires { (t : Shape K.Element K.Summary) × Whole rows.old (Some p) t }
-    ensures { (t : Shape K.Element K.Summary) → Whole rows.old (Some p) t → RemovedFirst K.Kind.rule rows.old rows.new result.place result.element result.rest t }
+pub fn remove_first<K: Kind>(
+    rows: &mut [Row<K::Element, K::Summary>],
+    place: u16,
+) -> First<K::Element>
+    requires { (t : Shape K.Element K.Summary) × Whole rows.old (Some place) t }
+    ensures { (t : Shape K.Element K.Summary) → Whole rows.old (Some place) t → RemovedFirst K.Kind.rule rows.old rows.new result.place result.element result.rest t }
 {
-    let row = row_at(rows, p);
-    match row.left {
-        None => First {
-            place: p,
+    let row = row_at(rows, place);
+    let Some(below) = row.left else {
+        return First {
+            place,
             element: row.element,
             rest: row.right,
-        },
-        Some(q) => {
-            let first = remove_first::<K>(rows, q);
-            let top = rebalance::<K>(rows, p, row.element, first.rest, row.right);
-            First {
-                place: first.place,
-                element: first.element,
-                rest: Some(top),
-            }
-        }
+        };
+    };
+    let first = remove_first::<K>(rows, below);
+    let top = rebalance::<K>(rows, place, row.element, first.rest, row.right);
+    First {
+        rest: Some(top),
+        ..first
     }
 }
 
@@ -80,14 +76,10 @@ pub fn merge_sides<K: Kind>(
     requires { (p : ℕ) × (x : Cell K.Element K.Summary) × (l : Shape K.Element K.Summary) × (r : Shape K.Element K.Summary) × Whole rows.old (Some p) (node p x l r) × Rooted rows.old left l × Rooted rows.old right r }
     ensures { (p : ℕ) (x : Cell K.Element K.Summary) (l r : Shape K.Element K.Summary) → Whole rows.old (Some p) (node p x l r) → Rooted rows.old left l → Rooted rows.old right r → Taken K.Kind.rule rows.old rows.new result p (elements l ++ elements r) (node p x l r) }
 {
-    match right {
-        None => left,
-        Some(q) => {
-            let next = remove_first::<K>(rows, q);
-            let top = rebalance::<K>(rows, next.place, next.element, left, next.rest);
-            Some(top)
-        }
-    }
+    let Some(below) = right else { return left };
+    let next = remove_first::<K>(rows, below);
+    let top = rebalance::<K>(rows, next.place, next.element, left, next.rest);
+    Some(top)
 }
 
 // A row that was taken out of a tree, and what is left of the tree.
@@ -97,40 +89,34 @@ pub struct Out {
     pub rest: Option<u16>,
 }
 
-// Takes the row at the place `i` of the list out of the tree at `p`.
-pub fn remove<K: Kind>(rows: &mut [Row<K::Element, K::Summary>], p: u16, i: u16) -> Out
-    requires { (t : Shape K.Element K.Summary) × Remove rows.old (Some p) i t }
-    ensures { (t : Shape K.Element K.Summary) → Remove rows.old (Some p) i t → Removed K.Kind.rule rows.old rows.new result.place i result.rest t }
+// Takes the row at the place `i` of the list out of the tree whose top row is at `place`.
+pub fn remove<K: Kind>(rows: &mut [Row<K::Element, K::Summary>], place: u16, i: u16) -> Out
+    requires { (t : Shape K.Element K.Summary) × Remove rows.old (Some place) i t }
+    ensures { (t : Shape K.Element K.Summary) → Remove rows.old (Some place) i t → Removed K.Kind.rule rows.old rows.new result.place i result.rest t }
 {
-    let row = row_at(rows, p);
+    let row = row_at(rows, place);
     let before = count_of::<K>(rows, row.left);
     if i < before {
-        match row.left {
-            None => unreachable(),
-            Some(q) => {
-                let out = remove::<K>(rows, q, i);
-                let top = rebalance::<K>(rows, p, row.element, out.rest, row.right);
-                Out {
-                    place: out.place,
-                    rest: Some(top),
-                }
-            }
+        let Some(below) = row.left else { unreachable() };
+        let out = remove::<K>(rows, below, i);
+        let top = rebalance::<K>(rows, place, row.element, out.rest, row.right);
+        Out {
+            rest: Some(top),
+            ..out
         }
     } else if i > before {
-        match row.right {
-            None => unreachable(),
-            Some(q) => {
-                let out = remove::<K>(rows, q, i - before - 1);
-                let top = rebalance::<K>(rows, p, row.element, row.left, out.rest);
-                Out {
-                    place: out.place,
-                    rest: Some(top),
-                }
-            }
+        let Some(below) = row.right else {
+            unreachable()
+        };
+        let out = remove::<K>(rows, below, i - before - 1);
+        let top = rebalance::<K>(rows, place, row.element, row.left, out.rest);
+        Out {
+            rest: Some(top),
+            ..out
         }
     } else {
         let rest = merge_sides::<K>(rows, row.left, row.right);
-        Out { place: p, rest }
+        Out { place, rest }
     }
 }
 
@@ -144,21 +130,17 @@ pub fn replace<K: Kind>(
     requires { (t : Shape K.Element K.Summary) × Whole rows.old side t }
     ensures { (t : Shape K.Element K.Summary) → Whole rows.old side t → Replaced K.Kind.rule rows.old rows.new i element side t }
 {
-    match side {
-        None => {}
-        Some(p) => {
-            let row = row_at(rows, p);
-            let before = count_of::<K>(rows, row.left);
-            if i < before {
-                replace::<K>(rows, row.left, i, element);
-                refresh::<K>(rows, p, row.element, row.left, row.right);
-            } else if i > before {
-                replace::<K>(rows, row.right, i - before - 1, element);
-                refresh::<K>(rows, p, row.element, row.left, row.right);
-            } else {
-                refresh::<K>(rows, p, element, row.left, row.right);
-            }
-        }
+    let Some(place) = side else { return };
+    let row = row_at(rows, place);
+    let before = count_of::<K>(rows, row.left);
+    if i < before {
+        replace::<K>(rows, row.left, i, element);
+        refresh::<K>(rows, place, row.element, row.left, row.right);
+    } else if i > before {
+        replace::<K>(rows, row.right, i - before - 1, element);
+        refresh::<K>(rows, place, row.element, row.left, row.right);
+    } else {
+        refresh::<K>(rows, place, element, row.left, row.right);
     }
 }
 
@@ -171,20 +153,15 @@ pub fn element_at<K: Kind>(
     requires { (t : Shape K.Element K.Summary) × Rooted rows.now side t }
     ensures { (t : Shape K.Element K.Summary) → Rooted rows.now side t → result ≡ slice_get (elements t) i }
 {
-    match side {
-        None => None,
-        Some(p) => {
-            let row = row_at(rows, p);
-            let before = count_of::<K>(rows, row.left);
-            if i < before {
-                return element_at::<K>(rows, row.left, i);
-            }
-            if i > before {
-                return element_at::<K>(rows, row.right, i - before - 1);
-            }
-            Some(row.element)
-        }
+    let row = row_at(rows, side?);
+    let before = count_of::<K>(rows, row.left);
+    if i < before {
+        return element_at::<K>(rows, row.left, i);
     }
+    if i > before {
+        return element_at::<K>(rows, row.right, i - before - 1);
+    }
+    Some(row.element)
 }
 
 // What the elements from `i` up to but without `j` come to. A row whose elements are all asked for tells its own
@@ -198,23 +175,19 @@ pub fn range_summary<K: Kind>(
     requires { (t : Shape K.Element K.Summary) × Rooted rows.now side t × (i ≤ j) × (j ≤ count_of t) }
     ensures { (t : Shape K.Element K.Summary) → Rooted rows.now side t → i ≤ j → j ≤ count_of t → Told K.Kind.rule t → result ≡ summary K.Kind.rule (between i j (elements t)) }
 {
-    match side {
-        None => K::unit(),
-        Some(p) => {
-            let row = row_at(rows, p);
-            if i == 0 && j == row.count {
-                return row.summary;
-            }
-            let before = count_of::<K>(rows, row.left);
-            if j <= before {
-                return range_summary::<K>(rows, row.left, i, j);
-            }
-            if i > before {
-                return range_summary::<K>(rows, row.right, i - before - 1, j - before - 1);
-            }
-            let front = range_summary::<K>(rows, row.left, i, before);
-            let back = range_summary::<K>(rows, row.right, 0, j - before - 1);
-            K::join(front, K::join(K::of(&row.element), back))
-        }
+    let Some(place) = side else { return K::unit() };
+    let row = row_at(rows, place);
+    if i == 0 && j == row.count {
+        return row.summary;
     }
+    let before = count_of::<K>(rows, row.left);
+    if j <= before {
+        return range_summary::<K>(rows, row.left, i, j);
+    }
+    if i > before {
+        return range_summary::<K>(rows, row.right, i - before - 1, j - before - 1);
+    }
+    let front = range_summary::<K>(rows, row.left, i, before);
+    let back = range_summary::<K>(rows, row.right, 0, j - before - 1);
+    K::join(front, K::join(K::of(&row.element), back))
 }

@@ -1,7 +1,5 @@
 // Edits of a whole tree, which take a row from the free list or give one back.
-ghost use Rattle.std.specs.Prelude.{ℕ, List};
-ghost use Rattle.rows.specs.Layouts.{HasRoom, HasElement, Edited};
-ghost use Rattle.rows.specs.Shape.{Shape, elements, Told};
+ghost use Rattle.rows.specs.Layouts.{HasRoom, HasElement, Edited, list_of};
 ghost use Rattle.std.specs.List.{insert, remove};
 
 use crate::free_list::{release, take_free};
@@ -16,19 +14,17 @@ pub fn insert_element<K: Kind>(
     i: u16,
     element: K::Element,
 ) -> Heads
-    requires { (t : Shape K.Element K.Summary) × (fs : List ℕ) × HasRoom rows.old heads i t fs }
-    ensures { (t : Shape K.Element K.Summary) (fs : List ℕ) → HasRoom rows.old heads i t fs → Edited K.Kind.rule rows.old rows.new result (insert (elements t) i element) (Told K.Kind.rule t) }
+    requires { HasRoom rows.old heads i }
+    ensures { Edited K.Kind.rule rows.old rows.new heads result (insert (list_of rows.old heads.top) i element) }
 {
-    match take_free(rows, heads.free, heads.used) {
-        None => unreachable(),
-        Some(fresh) => {
-            let top = insert::<K>(rows, heads.top, i, fresh.place, element);
-            Heads {
-                top: Some(top),
-                free: fresh.free,
-                used: fresh.used,
-            }
-        }
+    let Some(fresh) = take_free(rows, heads.free, heads.used) else {
+        unreachable()
+    };
+    let top = insert::<K>(rows, heads.top, i, fresh.place, element);
+    Heads {
+        top: Some(top),
+        free: fresh.free,
+        used: fresh.used,
     }
 }
 
@@ -38,19 +34,15 @@ pub fn delete_element<K: Kind>(
     heads: Heads,
     i: u16,
 ) -> Heads
-    requires { (t : Shape K.Element K.Summary) × (fs : List ℕ) × HasElement rows.old heads i t fs }
-    ensures { (t : Shape K.Element K.Summary) (fs : List ℕ) → HasElement rows.old heads i t fs → Edited K.Kind.rule rows.old rows.new result (remove (elements t) i) (Told K.Kind.rule t) }
+    requires { HasElement rows.old heads i }
+    ensures { Edited K.Kind.rule rows.old rows.new heads result (remove (list_of rows.old heads.top) i) }
 {
-    match heads.top {
-        None => unreachable(),
-        Some(p) => {
-            let out = remove::<K>(rows, p, i);
-            release(rows, out.place, heads.free);
-            Heads {
-                top: out.rest,
-                free: Some(out.place),
-                used: heads.used,
-            }
-        }
+    let Some(top) = heads.top else { unreachable() };
+    let out = remove::<K>(rows, top, i);
+    release(rows, out.place, heads.free);
+    Heads {
+        top: out.rest,
+        free: Some(out.place),
+        ..heads
     }
 }

@@ -1,4 +1,3 @@
 pub mod Runs
 mod Shifts
-mod Flats
 pub mod Rulings

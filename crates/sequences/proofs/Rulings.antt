@@ -1,24 +1,19 @@
 -- What the rules of a list come to once it is known which case there is.
-use Rattle.std.proofs.Common.{◌≡◌, ℕ, zero, suc, ◌+◌, ◌-◌, ◌<◌, ◌≤◌, Bool, true, false, cond, eqb, ltb, List, [], ◌∷◌, ◌++◌, length, get_or, take, drop, set, Ok, Err, Result, sym, refl, ap, ◌∙◌, ⊎_elim, suc-le-suc, zero-le, arith}
+use Rattle.std.proofs.Common.{◌≡◌, ℕ, zero, suc, ◌+◌, ◌-◌, ◌<◌, ◌≤◌, cond, eqb, ltb, List, [], ◌∷◌, ◌++◌, length, get_or, take, drop, set, Ok, Err, Result, sym, ap, ◌∙◌, ⊎_elim, suc-le-suc, zero-le, arith}
 use Rattle.std.specs.List.{between, insert, remove}
-use Rattle.std.proofs.lemmas.List.{take-take, take-append-drop, drop-take, drop-drop, set_past}
+use Rattle.std.proofs.lemmas.List.{take-take, take-append-drop, drop-take, drop-drop}
 use Rattle.std.proofs.lemmas.List.Edits.{between_none, between_more}
-use Rattle.std.proofs.lemmas.Option.{slice_get_read, slice_get_past}
+use Rattle.std.proofs.lemmas.Option.{slice_get_past}
 use Rattle.std.proofs.lemmas.Slice.{between_is}
-use Rattle.std.proofs.lemmas.Bool.{lt-ltb, le-ltb, ltb-false, cond_both, cases_Bool, cases_lt}
+use Rattle.std.proofs.lemmas.Bool.Decides.{nat_tests}
+use Rattle.std.proofs.lemmas.Bool.{lt-ltb, le-ltb, ltb-false, cases_Bool, cases_lt}
 use Rattle.refusals.specs.declared.Refusal.{Refusal}
 use Rattle.refusals.specs.declared.Refusal.TheVariants.{Full}
 use Rattle.sequences.specs.Lists.{no_place, found, insert_answer, insert_list, place_answer, delete_list, replace_list, element_answer, ranged}
 
 module _ {E : Type 0} (xs : List E) (i : ℕ) where
-  pub element_there : (x : E) → i < length xs → x ≡ get_or xs i x → element_answer xs i ≡ Ok x
-  element_there x within read = ap found (slice_get_read xs (length xs) i x refl within read)
-
   pub element_none : length xs ≤ i → element_answer xs i ≡ Err no_place
   element_none past = ap found (slice_get_past xs i past)
-
-  pub place_there : i < length xs → place_answer xs i ≡ Ok tt
-  place_there within = ap (λ t. cond t (Ok tt) (Err no_place)) (lt-ltb i (length xs) within)
 
   pub place_none : length xs ≤ i → place_answer xs i ≡ Err no_place
   place_none past = ap (λ t. cond t (Ok tt) (Err no_place)) (le-ltb i (length xs) past)
@@ -28,6 +23,11 @@ module _ {E : Type 0} (xs : List E) (i : ℕ) where
 
   pub deleted : i < length xs → delete_list xs i ≡ remove xs i
   deleted within = ap (λ t. cond t (remove xs i) xs) (lt-ltb i (length xs) within)
+
+-- an insertion that is not refused
+module _ {E : Type 0} (xs : List E) (room i : ℕ) where
+  pub inserted : (e : E) → i ≤ length xs → length xs < room → insert_list xs room i e ≡ insert xs i e
+  inserted e within free = grind (arith, nat_tests)
 
 pub range_there : {E X : Type 0} (why : Refusal) (xs : List E) (i j : ℕ) (x : X) → i ≤ j → j ≤ length xs → ranged why xs i j x ≡ Ok x
 range_there why xs i j x order within =
@@ -66,10 +66,6 @@ pub element_missing : {E : Type 0} (xs : List E) (i : ℕ) (why : Refusal) → e
 element_missing [] i why told = let same : why ≡ no_place = cc in (zero-le, same)
 element_missing (y ∷ ys) zero why told = let z : ◌≡◌ {A = ℕ} 0 1 = cc in absurd (omega arith)
 element_missing (y ∷ ys) (suc i) why told = let rest = element_missing ys i why told in (suc-le-suc rest.0, rest.1)
-
--- a replacement past the end is none
-pub replaced_set : {E : Type 0} (xs : List E) (i : ℕ) (e : E) → replace_list xs i e ≡ set xs i e
-replaced_set xs i e = cond_both (ltb i (length xs)) (set xs i e) xs (λ z. z ≡ set xs i e) (λ _. refl) (λ past. sym (set_past xs i e (ltb-false i (length xs) past)))
 
 -- the answers of edits depend on the length of the list alone
 pub insert_by_length : {E F : Type 0} (xs : List E) (ys : List F) (room i : ℕ) → length xs ≡ length ys → insert_answer xs room i ≡ insert_answer ys room i
@@ -121,14 +117,6 @@ module _ {E : Type 0} (why : Refusal) (xs : List E) (i j : ℕ) where
       (λ within. (ltb-false j i order, ltb-false (length xs) j within))
       (cases_Bool (ltb (length xs) j)))
       (cases_Bool (ltb j i))
-
-  by_cases : {Y : Type 0} (y : Y) (given : Refusal) (b c : Bool) → ◌≡◌ {A = Result (Unit {0}) Refusal} (cond b (Err why) (cond c (Err why) (Ok tt))) (Err given) → ◌≡◌ {A = Result Y Refusal} (cond b (Err why) (cond c (Err why) (Ok y))) (Err given)
-  by_cases y given true c e = let same : why ≡ given = cc in ap Err same
-  by_cases y given false true e = let same : why ≡ given = cc in ap Err same
-  by_cases y given false false e = absurd (not_both e)
-
-  pub range_refused : {X : Type 0} (x : X) (given : Refusal) → ranged {X = Unit {0}} why xs i j tt ≡ Err given → ranged why xs i j x ≡ Err given
-  range_refused x given told = by_cases x given (ltb j i) (ltb (length xs) j) told
 
   pub range_nowhere : {X : Type 0} (x : X) → (i ≤ j → j ≤ length xs → ⊥) → ranged why xs i j x ≡ Err why
   range_nowhere x never =

@@ -39,11 +39,3 @@ ranged why xs i j x = cond (nat_lt j i) (Err why) (cond (nat_lt (length xs) j) (
 
 abbrev pub range_answer : {E S : Type 0} → Rule E S → List E → ℕ → ℕ → Result S Refusal
 range_answer m xs i j = ranged no_place xs i j (summary m (between i j xs))
-
--- whether a call was refused, and why, with no word of what it told
-abbrev pub outcome : {T : Type 0} → Result T Refusal → Result (Unit {0}) Refusal
-outcome (Ok x) = Ok tt
-outcome (Err e) = Err e
-
-abbrev pub range_outcome : {E : Type 0} → List E → ℕ → ℕ → Result (Unit {0}) Refusal
-range_outcome xs i j = ranged no_place xs i j tt

@@ -1,9 +1,10 @@
 // The calls of a sequence as values, and runs of them over any sequence.
 ghost use Rattle.std.specs.Prelude.{◌≡◌, true, false, List, is_ok, IfOk};
 ghost use Rattle.refusals.specs.declared.Refusal.{Refusal};
-ghost use Rattle.sequences.specs.Calls.{answer, after, answers, after_all, Unaltering};
+ghost use Rattle.sequences.specs.Calls.{answer, after, answers, after_all, Unaltering, Step};
 
 use crate::Sequence;
+use crate::answering::{Answering, make_all};
 use kinds::Kind;
 use refusals::Refusal;
 use std::alloc::{AllocError, Global};
@@ -49,9 +50,9 @@ impl<E: fmt::Display, S: fmt::Display> fmt::Display for Answer<E, S> {
             Answer::Element(Ok(element)) => write!(f, "{element}"),
             Answer::Summary(Ok(summary)) => write!(f, "{summary}"),
             Answer::Edit(Ok(())) => f.write_str("ok"),
-            Answer::Element(Err(why)) => write!(f, "refused {why}"),
-            Answer::Summary(Err(why)) => write!(f, "refused {why}"),
-            Answer::Edit(Err(why)) => write!(f, "refused {why}"),
+            Answer::Element(Err(why)) | Answer::Summary(Err(why)) | Answer::Edit(Err(why)) => {
+                write!(f, "refused {why}")
+            }
         }
     }
 }
@@ -61,10 +62,9 @@ pub fn apply<S: Sequence>(
     sequence: &mut S,
     call: Call<S::Element>,
 ) -> Answer<S::Element, S::Summary>
-    ensures value { S.Sequence.told sequence.old → result ≡ answer S.Kind.Kind.rule (S.Sequence.room sequence.old) (S.Sequence.list sequence.old) call }
+    ensures value { result ≡ answer S.Kind.Kind.rule (S.Sequence.room sequence.old) (S.Sequence.list sequence.old) call }
     ensures after { S.Sequence.list sequence.new ≡ after (S.Sequence.room sequence.old) (S.Sequence.list sequence.old) call }
     ensures room { S.Sequence.room sequence.new ≡ S.Sequence.room sequence.old }
-    ensures told { S.Sequence.told sequence.old → S.Sequence.told sequence.new }
     ensures same { Unaltering call result → sequence.new ≡ sequence.old }
 {
     match call {
@@ -78,6 +78,18 @@ pub fn apply<S: Sequence>(
     }
 }
 
+impl<S: Sequence> Answering for S {
+    type Call = Call<S::Element>;
+
+    type Answer = Answer<S::Element, S::Summary>;
+
+    ghost step = { λ s call told t. Step S.Kind.Kind.rule S.Sequence.room S.Sequence.list s call told t };
+
+    fn make(&mut self, call: Call<S::Element>) -> Answer<S::Element, S::Summary> {
+        apply(self, call)
+    }
+}
+
 // Makes the calls one after the other, and collects what they answer. Where there is no memory for the answers, it
 // makes none of them.
 pub fn run<S: Sequence>(
@@ -85,15 +97,10 @@ pub fn run<S: Sequence>(
     sequence: &mut S,
     calls: &[Call<S::Element>],
 ) -> Result<Vec<Answer<S::Element, S::Summary>>, AllocError>
-    ensures value { S.Sequence.told sequence.old → IfOk result (λ v. v.items ≡ answers S.Kind.Kind.rule (S.Sequence.room sequence.old) (S.Sequence.list sequence.old) calls.now) }
+    ensures value { IfOk result (λ v. v.items ≡ answers S.Kind.Kind.rule (S.Sequence.room sequence.old) (S.Sequence.list sequence.old) calls.now) }
     ensures after { is_ok result ≡ true → S.Sequence.list sequence.new ≡ after_all (S.Sequence.room sequence.old) (S.Sequence.list sequence.old) calls.now }
     ensures room { S.Sequence.room sequence.new ≡ S.Sequence.room sequence.old }
-    ensures told { S.Sequence.told sequence.old → S.Sequence.told sequence.new }
     ensures refused { is_ok result ≡ false → sequence.new ≡ sequence.old }
 {
-    let mut answers = Vec::with_capacity(heap, calls.len())?;
-    for call in calls {
-        answers.push_reserved(apply(sequence, *call));
-    }
-    Ok(answers)
+    make_all(heap, sequence, calls)
 }

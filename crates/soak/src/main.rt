@@ -5,13 +5,13 @@ ghost use Rattle.std.specs.Prelude.{◌≡◌, []};
 
 mod random;
 
-use kinds::{Kind, Thinnest};
+use kinds::Thinnest;
 use motion::{Block, Move};
 use plan::Plan;
 use plan::calls::{Answer, Call};
-use plan::summaries::{PlanKind, Summary};
+use plan::summaries::{Blocks, PlanKind};
 use random::Random;
-use rows::Row;
+use rows::idle;
 use sequences::Sequence;
 use sequences::calls::{Answer as SequenceAnswer, apply};
 use sequences::flat::FlatList;
@@ -21,13 +21,6 @@ use tree::Tree;
 const ROOM: usize = 200;
 
 const CALLS: u32 = 60_000;
-
-const MOVE: Move = Move {
-    target: [0, 0, 0],
-    acceleration: 1,
-    feed: 1,
-    corner: 0,
-};
 
 fn main(rt: HostRuntime) -> anyhow::Result<()> {
     soak(&rt)
@@ -41,18 +34,12 @@ fn soak(rt: &HostRuntime) -> anyhow::Result<()> {
 fn soak_readings(rt: &HostRuntime) -> anyhow::Result<()> {
     let mut slots = [0u16; ROOM];
     let mut flat: FlatList<Thinnest> = FlatList::open(&mut slots);
-    let mut rows = [Row {
-        element: 0u16,
-        summary: 0u16,
-        left: None,
-        right: None,
-        depth: 0,
-        count: 0,
-    }; ROOM];
+    let mut rows = [idle::<Thinnest>(0); ROOM];
     let mut tree: Tree<Thinnest> = Tree::open(&mut rows);
     let mut random = Random::new(1);
     let mut differ = 0u32;
     let mut edits = 0u32;
+    // A loop, since each call is drawn from what the last one left.
     for _ in 0..CALLS {
         let count = flat.count();
         let call = random.reading_call(count);
@@ -72,41 +59,27 @@ fn soak_readings(rt: &HostRuntime) -> anyhow::Result<()> {
 
 fn soak_plans(rt: &HostRuntime) -> anyhow::Result<()> {
     let mut random = Random::new(2);
-    let mut calls = Vec::new(rt.alloc());
-    for _ in 0..CALLS {
-        calls.push(random.plan_call())?;
-    }
-    let block = Block::new([0, 0, 0], MOVE, 100);
+    let calls: Vec<Call> = (0..CALLS).map(|_| random.plan_call()).collect(rt.alloc())?;
+    let block = Block::new([0, 0, 0], Move::IDLE, 100);
     let mut slots = [block; ROOM];
     let flat: FlatList<PlanKind> = FlatList::open(&mut slots);
     let one = run_plan(rt.alloc(), flat, calls.as_slice())?;
-    let mut rows = [Row {
-        element: block,
-        summary: PlanKind::unit(),
-        left: None,
-        right: None,
-        depth: 0,
-        count: 0,
-    }; ROOM];
+    let mut rows = [idle::<PlanKind>(block); ROOM];
     let tree: Tree<PlanKind> = Tree::open(&mut rows);
     let other = run_plan(rt.alloc(), tree, calls.as_slice())?;
-    let mut differ = 0u32;
-    let mut edits = 0u32;
-    for (a, b) in one.iter().zip(other.iter()) {
-        if let Answer::Edit(Ok(())) = *a {
-            edits = edits.saturating_add(1);
-        }
-        if *a != *b {
-            differ = differ.saturating_add(1);
-        }
-    }
+    let edits = one.iter().filter(|a| **a == Answer::Edit(Ok(()))).count();
+    let differ = one
+        .iter()
+        .zip(other.iter())
+        .filter(|(a, b)| *a != *b)
+        .count();
     println!(rt;
         "plans: {CALLS} calls over a tree and a flat list, {edits} edits accepted, {differ} answers differ"
     )?;
     Ok(())
 }
 
-fn run_plan<S: Sequence<Element = Block, Summary = Summary, Kind = PlanKind> + Drop>(
+fn run_plan<S: Blocks + Drop>(
     heap: Global,
     blocks: S,
     calls: &[Call],

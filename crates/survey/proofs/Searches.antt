@@ -7,8 +7,7 @@ use Rattle.kinds.specs.Models.{thinnest, thinnest_laws}
 use Rattle.kinds.specs.Rules.{summary}
 use Rattle.kinds.proofs.Summaries.{summary_append, summary_cons, summary_one}
 use Rattle.sequences.proofs.Rulings.{between_split, between_one}
-use Rattle.survey.specs.Readings.{IsThinnest, spot_at}
-use Rattle.survey.proofs.Sounds.{Small}
+use Rattle.survey.specs.Readings.{Sound, IsThinnest, spot_at}
 
 -- the least is at most each reading
 least_below : (ys : List ℕ) (k : ℕ) → k < length ys → summary thinnest ys ≤ get_or ys k 0
@@ -18,7 +17,7 @@ least_below (y ∷ ys) (suc k) h =
     let rest : summary thinnest ys ≤ get_or ys k 0 = least_below ys k (omega arith) in
     subst (λ z. z ≤ get_or ys k 0) (sym (summary_cons thinnest_laws y ys)) (omega arith)
 
-module _ (xs : List ℕ) (small : Small xs) where
+module _ (xs : List ℕ) (sound : Sound xs) where
   abbrev pub least : ℕ → ℕ → ℕ
   least i j = summary thinnest (between i j xs)
 
@@ -32,7 +31,7 @@ module _ (xs : List ℕ) (small : Small xs) where
   least_split i k j low high = ap (summary thinnest) (between_split xs i k j low high) ∙ summary_append thinnest_laws (between i k xs) (between k j xs)
 
   least_one : (i : ℕ) → i < length xs → least i (i + 1) ≡ get_or xs i 0
-  least_one i within = ap (summary thinnest) (between_one xs i 0 within) ∙ summary_one thinnest_laws (get_or xs i 0) ∙ omega (arith, small i within)
+  least_one i within = ap (summary thinnest) (between_one xs i 0 within) ∙ summary_one thinnest_laws (get_or xs i 0) ∙ omega (arith, sound i within)
 
   -- the least reading of the whole range stands between low and high, and not before
   pub record Searching (i j reading low high : ℕ) : Type 0 where

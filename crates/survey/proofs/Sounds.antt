@@ -1,40 +1,26 @@
 -- Edits keep every reading at 2,000 or less.
-use Rattle.std.proofs.Common.{◌≡◌, ℕ, ◌+◌, ◌-◌, ◌<◌, ◌≤◌, eqb, ltb, List, length, get_or, sym, ap, ◌∙◌, subst, ⊎_elim, arith}
-use Rattle.std.specs.List.{insert, remove}
-use Rattle.std.proofs.lemmas.Bool.{cases_lt, cases_order, cond_both, ltb-true, ltb-false}
-use Rattle.std.proofs.lemmas.List.Edits.{length-insert, get_or-insert_below, get_or-insert_at, get_or-insert_above, length-remove, get_or-remove_below, get_or-remove_above}
-use Rattle.sequences.specs.Lists.{insert_list, delete_list}
-use Rattle.survey.specs.Readings.{note_list}
+use Rattle.std.proofs.Common.{◌≡◌, ℕ, ◌+◌, ◌<◌, ◌≤◌, ltb, List, length, sym, subst, ⊎_elim, arith}
+use Rattle.std.specs.List.{remove}
+use Rattle.std.proofs.lemmas.Bool.{cases_lt, cond_both, ltb-true}
+use Rattle.std.proofs.lemmas.List.Edits.{length-remove, get_or-remove_below, get_or-remove_above}
+use Rattle.sequences.specs.Lists.{delete_list}
+use mathlib.Core.HLevel.{is_prop→PathP}
+use native.Mathlib.Bridge.{le_prop}
+use Rattle.survey.specs.Readings.{Sound}
+use Rattle.survey.specs.declared.Survey.{Survey, sound-type}
 
-abbrev pub Small : List ℕ → Type 0
-Small xs = (k : ℕ) → k < length xs → get_or xs k 0 ≤ 2000
+-- Two surveys that differ at most in the proof of what their type says are one.
+pub same_survey : {S : Type 0} {g h : _} (a b : Survey S g h) → a.readings ≡ b.readings → a ≡ b
+same_survey {S} {g} {h} a b e = λ i. record { readings = e i; sound = is_prop→PathP (λ j. sound-type S g h (e j)) (λ j s t l k below. le_prop (s k below) (t k below) l) a.sound b.sound i }
 
-module _ (xs : List ℕ) (i : ℕ) (small : Small xs) where
-  small_inserted : (e : ℕ) → i ≤ length xs → e ≤ 2000 → Small (insert xs i e)
-  small_inserted e inside low k h =
-      let long = length-insert xs i e inside in
-      ⊎_elim
-      (λ same. subst (λ z. z ≤ 2000) (sym (ap (λ z. get_or (insert xs i e) z 0) same ∙ get_or-insert_at xs i e 0 inside)) low)
-      (⊎_elim
-      (λ lt. subst (λ z. z ≤ 2000) (sym (get_or-insert_below xs i e 0 k lt inside)) (small k (omega arith)))
-      (λ gt. let back : k ≡ (k - 1) + 1 = omega arith in
-      subst (λ z. z ≤ 2000) (sym (ap (λ z. get_or (insert xs i e) z 0) back ∙ get_or-insert_above xs i e 0 (k - 1) (omega arith) inside)) (small (k - 1) (omega arith))))
-      (cases_order k i)
-
-  small_removed : i < length xs → Small (remove xs i)
-  small_removed inside k h =
+module _ (xs : List ℕ) (i : ℕ) (sound : Sound xs) where
+  sound_removed : i < length xs → Sound (remove xs i)
+  sound_removed inside k h =
       let long = length-remove xs i inside in
       ⊎_elim
-      (λ lt. subst (λ z. z ≤ 2000) (sym (get_or-remove_below xs i 0 k lt inside)) (small k (omega arith)))
-      (λ ge. subst (λ z. z ≤ 2000) (sym (get_or-remove_above xs i 0 k ge inside)) (small (k + 1) (omega arith)))
+      (λ lt. subst (λ z. z ≤ 2000) (sym (get_or-remove_below xs i 0 k lt inside)) (sound k (omega arith)))
+      (λ ge. subst (λ z. z ≤ 2000) (sym (get_or-remove_above xs i 0 k ge inside)) (sound (k + 1) (omega arith)))
       (cases_lt k i)
 
-  pub small_noted : (room e : ℕ) → Small (note_list xs room i e)
-  small_noted room e =
-      cond_both (ltb 2000 e) xs (insert_list xs room i e) Small (λ _. small) (λ low.
-      cond_both (ltb (length xs) i) _ _ Small (λ _. small) (λ inside.
-      cond_both (eqb (length xs) room) _ _ Small (λ _. small) (λ _.
-      small_inserted e (ltb-false (length xs) i inside) (ltb-false 2000 e low))))
-
-  pub small_struck : Small (delete_list xs i)
-  small_struck = cond_both (ltb i (length xs)) _ _ Small (λ inside. small_removed (ltb-true i (length xs) inside)) (λ _. small)
+  pub sound_struck : Sound (delete_list xs i)
+  sound_struck = cond_both (ltb i (length xs)) _ _ Sound (λ inside. sound_removed (ltb-true i (length xs) inside)) (λ _. sound)

@@ -7,10 +7,9 @@ use Rattle.refusals.specs.declared.Refusal.TheVariants.{NoPlace, Reading}
 use Rattle.sequences.specs.Lists.{insert_answer, insert_list, ranged}
 use Rattle.survey.specs.declared.Spot.{Spot}
 
--- What every survey keeps that was opened empty: its sequence's own word, and that no reading passes 2,000.
-pub record Sound (told : Type 0) (xs : List ℕ) : Type 0 where
-  pub kept : told
-  pub small : (k : ℕ) → k < length xs → slice_index xs k ≤ 2000
+-- No reading passes 2,000.
+abbrev pub Sound : List ℕ → Type 0
+Sound xs = (k : ℕ) → k < length xs → slice_index xs k ≤ 2000
 
 abbrev pub note_answer : List ℕ → ℕ → ℕ → ℕ → Result (Unit {0}) Refusal
 note_answer xs room i reading = cond (nat_lt 2000 reading) (Err Reading) (insert_answer xs room i)

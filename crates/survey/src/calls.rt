@@ -1,12 +1,10 @@
 // The calls of a survey as values, and runs of them.
 ghost use Rattle.std.specs.Prelude.{◌≡◌, true, false, is_ok, IfOk};
-ghost use Rattle.survey.specs.Calls.{answer, after, answers, after_all, Unaltering};
-ghost use Rattle.survey.specs.Readings.{Sound};
+ghost use Rattle.survey.specs.Calls.{answer, after, answers, after_all, Unaltering, Step};
 
-use crate::{Spot, Survey};
-use kinds::Thinnest;
+use crate::{Readings, Spot, Survey};
 use refusals::Refusal;
-use sequences::Sequence;
+use sequences::answering::{Answering, make_all};
 use std::alloc::{AllocError, Global};
 use std::fmt;
 
@@ -43,19 +41,17 @@ impl fmt::Display for Answer {
                 f,
                 "{reading} at {place}"
             ),
-            Answer::Edit(Err(why)) => write!(f, "refused {why}"),
-            Answer::Thinnest(Err(why)) => write!(f, "refused {why}"),
+            Answer::Edit(Err(why)) | Answer::Thinnest(Err(why)) => write!(f, "refused {why}"),
         }
     }
 }
 
-impl<S: Sequence<Element = u16, Summary = u16, Kind = Thinnest>> Survey<S> {
+impl<S: Readings> Survey<S> {
     // Makes one call.
     pub fn apply(&mut self, call: Call) -> Answer
-        ensures value { Sound (S.Sequence.told self.old.readings) (S.Sequence.list self.old.readings) → result ≡ answer (S.Sequence.room self.old.readings) (S.Sequence.list self.old.readings) call }
+        ensures value { result ≡ answer (S.Sequence.room self.old.readings) (S.Sequence.list self.old.readings) call }
         ensures after { S.Sequence.list self.new.readings ≡ after (S.Sequence.room self.old.readings) (S.Sequence.list self.old.readings) call }
         ensures room { S.Sequence.room self.new.readings ≡ S.Sequence.room self.old.readings }
-        ensures sound { Sound (S.Sequence.told self.old.readings) (S.Sequence.list self.old.readings) → Sound (S.Sequence.told self.new.readings) (S.Sequence.list self.new.readings) }
         ensures same { Unaltering call result → self.new ≡ self.old }
     {
         match call {
@@ -68,16 +64,23 @@ impl<S: Sequence<Element = u16, Summary = u16, Kind = Thinnest>> Survey<S> {
     // Makes the calls one after the other, and collects what they answer. Where there is no memory for the answers,
     // it makes none of them.
     pub fn run(&mut self, heap: Global, calls: &[Call]) -> Result<Vec<Answer>, AllocError>
-        ensures value { Sound (S.Sequence.told self.old.readings) (S.Sequence.list self.old.readings) → IfOk result (λ v. v.items ≡ answers (S.Sequence.room self.old.readings) (S.Sequence.list self.old.readings) calls.now) }
+        ensures value { IfOk result (λ v. v.items ≡ answers (S.Sequence.room self.old.readings) (S.Sequence.list self.old.readings) calls.now) }
         ensures after { is_ok result ≡ true → S.Sequence.list self.new.readings ≡ after_all (S.Sequence.room self.old.readings) (S.Sequence.list self.old.readings) calls.now }
         ensures room { S.Sequence.room self.new.readings ≡ S.Sequence.room self.old.readings }
-        ensures sound { Sound (S.Sequence.told self.old.readings) (S.Sequence.list self.old.readings) → Sound (S.Sequence.told self.new.readings) (S.Sequence.list self.new.readings) }
         ensures refused { is_ok result ≡ false → self.new ≡ self.old }
     {
-        let mut answers = Vec::with_capacity(heap, calls.len())?;
-        for call in calls {
-            answers.push_reserved(self.apply(*call));
-        }
-        Ok(answers)
+        make_all(heap, self, calls)
+    }
+}
+
+impl<S: Readings> Answering for Survey<S> {
+    type Call = Call;
+
+    type Answer = Answer;
+
+    ghost step = { λ p call told q. Step (λ s. S.Sequence.room s.readings) (λ s. S.Sequence.list s.readings) p call told q };
+
+    fn make(&mut self, call: Call) -> Answer {
+        self.apply(call)
     }
 }

@@ -5,9 +5,9 @@ ghost use Rattle.std.specs.Prelude.{◌≡◌, ℕ, ◌<◌, ◌≤◌, [], leng
 ghost use Rattle.kinds.specs.Models.{thinnest as thinnest-rule};
 ghost use Rattle.kinds.specs.Rules.{summary};
 ghost use Rattle.refusals.specs.declared.Refusal.{Refusal};
-ghost use Rattle.sequences.specs.Lists.{place_answer, delete_list, ranged, outcome};
+ghost use Rattle.sequences.specs.Lists.{place_answer, delete_list};
 ghost use Rattle.std.specs.List.{between};
-ghost use Rattle.survey.specs.Readings.{Sound, IsThinnest, note_answer, note_list, spot_at, no_range, thinnest_answer};
+ghost use Rattle.survey.specs.Readings.{Sound, IsThinnest, note_answer, note_list, spot_at, thinnest_answer};
 
 pub mod calls;
 
@@ -25,16 +25,23 @@ pub struct Spot {
     pub place: u16,
 }
 
+// Whatever holds readings, with the least of each range.
+pub trait Readings: Sequence<Element = u16, Summary = u16, Kind = Thinnest> {}
+
+impl<S: Sequence<Element = u16, Summary = u16, Kind = Thinnest>> Readings for S {}
+
+// No reading of a survey passes the greatest.
 #[derive(Drop)]
-pub struct Survey<S> {
+pub struct Survey<S: Readings> {
     readings: S,
+    ghost sound: { Sound (S.Sequence.list readings) },
 }
 
-impl<S: Sequence<Element = u16, Summary = u16, Kind = Thinnest>> Survey<S> {
+impl<S: Readings> Survey<S> {
+    // The code that joins the two hands in an empty sequence, by a rule of the project.
     pub fn open(readings: S) -> Survey<S>
         requires { S.Sequence.list readings ≡ [] }
         ensures same { result.readings ≡ readings }
-        ensures sound { S.Sequence.told readings → Sound (S.Sequence.told result.readings) (S.Sequence.list result.readings) }
     {
         Survey { readings }
     }
@@ -44,7 +51,6 @@ impl<S: Sequence<Element = u16, Summary = u16, Kind = Thinnest>> Survey<S> {
         ensures value { result ≡ note_answer (S.Sequence.list self.old.readings) (S.Sequence.room self.old.readings) i reading }
         ensures after { S.Sequence.list self.new.readings ≡ note_list (S.Sequence.list self.old.readings) (S.Sequence.room self.old.readings) i reading }
         ensures room { S.Sequence.room self.new.readings ≡ S.Sequence.room self.old.readings }
-        ensures sound { Sound (S.Sequence.told self.old.readings) (S.Sequence.list self.old.readings) → Sound (S.Sequence.told self.new.readings) (S.Sequence.list self.new.readings) }
         ensures refused { (why : Refusal) → result ≡ Err why → self.new ≡ self.old }
     {
         if reading > THICKEST {
@@ -58,7 +64,6 @@ impl<S: Sequence<Element = u16, Summary = u16, Kind = Thinnest>> Survey<S> {
         ensures value { result ≡ place_answer (S.Sequence.list self.old.readings) i }
         ensures after { S.Sequence.list self.new.readings ≡ delete_list (S.Sequence.list self.old.readings) i }
         ensures room { S.Sequence.room self.new.readings ≡ S.Sequence.room self.old.readings }
-        ensures sound { Sound (S.Sequence.told self.old.readings) (S.Sequence.list self.old.readings) → Sound (S.Sequence.told self.new.readings) (S.Sequence.list self.new.readings) }
         ensures refused { (why : Refusal) → result ≡ Err why → self.new ≡ self.old }
     {
         self.readings.delete(i)
@@ -68,20 +73,21 @@ impl<S: Sequence<Element = u16, Summary = u16, Kind = Thinnest>> Survey<S> {
     fn least(&mut self, i: u16, j: u16) -> u16
         requires order { i ≤ j }
         requires within { j ≤ length (S.Sequence.list self.old.readings) }
-        ensures value { S.Sequence.told self.old.readings → result ≡ summary thinnest-rule (between i j (S.Sequence.list self.old.readings)) }
+        ensures value { result ≡ summary thinnest-rule (between i j (S.Sequence.list self.old.readings)) }
         ensures same { self.new ≡ self.old }
     {
-        match self.readings.range_join(i, j) {
-            Ok(reading) => reading,
-            Err(_) => unreachable(),
-        }
+        let Ok(reading) = self.readings.range_join(i, j) else {
+            unreachable()
+        };
+        reading
     }
 
-    // The first place of the range at which its least reading stands.
+    // The first place of the range at which its least reading stands. The search is a loop of its own: a question takes
+    // `&mut self`, so as a closure it would have to carry its state through a search that takes the test.
     fn first_place(&mut self, i: u16, j: u16, reading: u16) -> u16
         requires order { i < j }
         requires within { j ≤ length (S.Sequence.list self.old.readings) }
-        ensures value { Sound (S.Sequence.told self.old.readings) (S.Sequence.list self.old.readings) → reading ≡ summary thinnest-rule (between i j (S.Sequence.list self.old.readings)) → IsThinnest (S.Sequence.list self.old.readings) i j (spot_at reading result) }
+        ensures value { reading ≡ summary thinnest-rule (between i j (S.Sequence.list self.old.readings)) → IsThinnest (S.Sequence.list self.old.readings) i j (spot_at reading result) }
         ensures same { self.new ≡ self.old }
     {
         let mut low = i;
@@ -99,12 +105,12 @@ impl<S: Sequence<Element = u16, Summary = u16, Kind = Thinnest>> Survey<S> {
 
     // The least reading of a range and its first place, or none where the range is empty.
     pub fn thinnest(&mut self, i: u16, j: u16) -> Result<Option<Spot>, Refusal>
-        ensures value { Sound (S.Sequence.told self.old.readings) (S.Sequence.list self.old.readings) → result ≡ thinnest_answer (S.Sequence.list self.old.readings) i j }
-        ensures spot { Sound (S.Sequence.told self.old.readings) (S.Sequence.list self.old.readings) → (spot : Spot) → result ≡ Ok (Some spot) → IsThinnest (S.Sequence.list self.old.readings) i j spot }
-        ensures outcome { outcome result ≡ ranged no_range (S.Sequence.list self.old.readings) i j tt }
+        ensures value { result ≡ thinnest_answer (S.Sequence.list self.old.readings) i j }
+        ensures spot { (spot : Spot) → result ≡ Ok (Some spot) → IsThinnest (S.Sequence.list self.old.readings) i j spot }
         ensures same { self.new ≡ self.old }
     {
-        if i > j || j > self.readings.count() {
+        let count = self.readings.count();
+        if i > j || j > count {
             return Err(Refusal::NoPlace(Layer::Survey));
         }
         if i == j {

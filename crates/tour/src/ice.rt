@@ -1,8 +1,6 @@
 // A rink's ice survey, worked through from beginning to end.
-ghost use Rattle.std.specs.Prelude.{◌≡◌, []};
-
+use crate::answers::print_answers;
 use kinds::Thinnest;
-use sequences::Sequence;
 use sequences::flat::FlatList;
 use survey::Survey;
 use survey::calls::Call;
@@ -41,24 +39,11 @@ const CALLS: [Call; 29] = [
     Call::Strike(65535),
 ];
 
-// Runs the calls on a survey over any sequence of readings that is still empty.
-fn run_over<S: Sequence<Element = u16, Summary = u16, Kind = Thinnest> + Drop>(
-    rt: &HostRuntime,
-    readings: S,
-) -> anyhow::Result<()>
-    requires { S.Sequence.list readings ≡ [] }
-{
-    let mut survey = Survey::open(readings);
-    let answers = survey.run(rt.alloc(), &CALLS)?;
-    for (call, answer) in CALLS.iter().zip(answers.iter()) {
-        println!(rt; "{call}: {answer}")?;
-    }
-    Ok(())
-}
-
 pub fn survey_a_rink(rt: &HostRuntime) -> anyhow::Result<()> {
     println!(rt; "Ice survey: 12 slots, readings in tenths of a millimetre")?;
     let mut slots = [0u16; 12];
     let readings: FlatList<Thinnest> = FlatList::open(&mut slots);
-    run_over(rt, readings)
+    let mut survey = Survey::open(readings);
+    let answers = survey.run(rt.alloc(), &CALLS)?;
+    print_answers(rt, &CALLS, &answers)
 }

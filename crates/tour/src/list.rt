@@ -1,6 +1,7 @@
 // A run of a sequence's own calls, on readings that are summed up by two kinds at once.
+use crate::answers::print_answers;
 use kinds::{Both, Pair, Thinnest, Total};
-use rows::Row;
+use rows::idle;
 use sequences::Sequence;
 use sequences::calls::{Call, run};
 use sequences::deep::Deep;
@@ -35,10 +36,7 @@ fn run_over<S: Sequence<Element = u16, Summary = Pair<u16, u32>>>(
     readings: &mut S,
 ) -> anyhow::Result<()> {
     let answers = run(rt.alloc(), readings, &CALLS)?;
-    for (call, answer) in CALLS.iter().zip(answers.iter()) {
-        println!(rt; "{call}: {answer}")?;
-    }
-    Ok(())
+    print_answers(rt, &CALLS, &answers)
 }
 
 pub fn run_on_a_flat_list(rt: &HostRuntime) -> anyhow::Result<()> {
@@ -52,18 +50,7 @@ pub fn run_on_a_flat_list(rt: &HostRuntime) -> anyhow::Result<()> {
 
 pub fn run_on_a_tree(rt: &HostRuntime) -> anyhow::Result<()> {
     println!(rt; "The same calls on a tree of 4 rows")?;
-    let row = Row {
-        element: 0u16,
-        summary: Pair {
-            first: 0u16,
-            second: 0u32,
-        },
-        left: None,
-        right: None,
-        depth: 0,
-        count: 0,
-    };
-    let mut rows = [row; 4];
+    let mut rows = [idle::<Both<Thinnest, Total>>(0); 4];
     let mut readings: Tree<Both<Thinnest, Total>> = Tree::open(&mut rows);
     run_over(rt, &mut readings)?;
     let depth = readings.depth();

@@ -1,6 +1,7 @@
 // A tour of the library: written lists of calls, each printed with its answer or its refusal.
 #![tactic(auto)]
 
+mod answers;
 mod ice;
 mod list;
 mod passes;

@@ -1,5 +1,5 @@
 // A plan of three moves: its figures, the caps of its junctions, and the speeds that both passes give.
-use motion::passes::{Profile, junction_caps, plan_speeds};
+use motion::passes::{Unplanned, junction_caps, plan_speeds};
 use motion::theorems::{
     edits_by_parts, figures_bounded, passes_by_parts, reach_is_box, span_is_sum, worked_examples,
 };
@@ -45,28 +45,29 @@ fn print_figures(rt: &HostRuntime, block: Block) -> anyhow::Result<()> {
 }
 
 fn print_speeds(rt: &HostRuntime, blocks: &[Block], start: u32) -> anyhow::Result<()> {
-    match plan_speeds(rt.alloc(), blocks, start)? {
-        Profile::Speeds(speeds) => println!(rt; "speeds from {start}: {speeds:?}")?,
-        Profile::Blocked(junction) => println!(rt;
+    match plan_speeds(rt.alloc(), blocks, start) {
+        Ok(speeds) => println!(rt; "speeds from {start}: {speeds:?}")?,
+        Err(Unplanned::Blocked(junction)) => println!(rt;
             "no lawful profile from {start}: blocked at junction {junction}"
         )?,
+        Err(Unplanned::Memory(error)) => return Err(error.into()),
     }
     Ok(())
 }
 
 // None of these calls does anything when it runs: each stands for the theorem that is its contract.
-fn cite_theorems() -> u8 {
-    figures_bounded()
-        | passes_by_parts()
-        | edits_by_parts()
-        | reach_is_box()
-        | span_is_sum()
-        | worked_examples()
+fn cite_theorems() {
+    figures_bounded();
+    passes_by_parts();
+    edits_by_parts();
+    reach_is_box();
+    span_is_sum();
+    worked_examples();
 }
 
 pub fn work_the_passes(rt: &HostRuntime) -> anyhow::Result<()> {
     println!(rt; "A plan of three moves by both passes, in squared speeds")?;
-    let _ = cite_theorems();
+    cite_theorems();
     let blocks = blocks();
     for block in blocks {
         print_figures(rt, block)?;

@@ -1,15 +1,12 @@
 // The same plan, edited and asked while it stands, over a flat list and over a tree.
-ghost use Rattle.std.specs.Prelude.{◌≡◌, []};
-
+use crate::answers::print_answers;
 use crate::passes::{FIRST, ORIGIN, SECOND, THIRD};
-use kinds::Kind;
 use motion::{Block, Move};
 use panel::run_on_tree;
 use plan::Plan;
-use plan::calls::{Answer, Call};
-use plan::summaries::{PlanKind, Summary};
-use rows::Row;
-use sequences::Sequence;
+use plan::calls::Call;
+use plan::summaries::PlanKind;
+use rows::idle;
 use sequences::flat::FlatList;
 
 const SHORT: Move = Move {
@@ -90,45 +87,20 @@ const CALLS: [Call; 52] = [
     Call::Span(0, 4),
 ];
 
-fn print_answers(rt: &HostRuntime, answers: &[Answer]) -> anyhow::Result<()> {
-    for (call, answer) in CALLS.iter().zip(answers.iter()) {
-        println!(rt; "{call}: {answer}")?;
-    }
-    Ok(())
-}
-
-// Runs the calls on a plan over any sequence of blocks that is still empty.
-fn run_over<S: Sequence<Element = Block, Summary = Summary, Kind = PlanKind> + Drop>(
-    rt: &HostRuntime,
-    blocks: S,
-) -> anyhow::Result<()>
-    requires { S.Sequence.list blocks ≡ [] }
-{
-    let mut plan = Plan::open(blocks);
-    let answers = plan.run(rt.alloc(), &CALLS)?;
-    print_answers(rt, answers.as_slice())
-}
-
 pub fn plan_on_a_flat_list(rt: &HostRuntime) -> anyhow::Result<()> {
     println!(rt; "A plan over a flat list of 4 slots")?;
     let mut slots = [Block::new(ORIGIN, FIRST, 100); 4];
     let blocks: FlatList<PlanKind> = FlatList::open(&mut slots);
-    run_over(rt, blocks)
+    let mut plan = Plan::open(blocks);
+    let answers = plan.run(rt.alloc(), &CALLS)?;
+    print_answers(rt, &CALLS, &answers)
 }
 
 pub fn plan_on_a_tree(rt: &HostRuntime) -> anyhow::Result<()> {
     println!(rt; "The same plan over a tree of 4 rows")?;
-    let row = Row {
-        element: Block::new(ORIGIN, FIRST, 100),
-        summary: PlanKind::unit(),
-        left: None,
-        right: None,
-        depth: 0,
-        count: 0,
-    };
-    let mut rows = [row; 4];
+    let mut rows = [idle::<PlanKind>(Block::new(ORIGIN, FIRST, 100)); 4];
     let told = run_on_tree(rt.alloc(), &mut rows, &CALLS)?;
-    print_answers(rt, told.answers.as_slice())?;
+    print_answers(rt, &CALLS, &told.answers)?;
     let depth = told.depth;
     println!(rt; "depth: {depth}")?;
     Ok(())

@@ -1,98 +1,38 @@
 // The balanced tree: a sequence over rows that the caller lends.
 #![tactic(auto)]
 
-ghost use Rattle.std.specs.Prelude.{◌≡◌, ℕ, ◌≤◌, List, [], length};
+ghost use Rattle.std.specs.Prelude.{◌≡◌, ◌≤◌, [], length};
 ghost use Rattle.kinds.specs.Rules.{summary};
-ghost use Rattle.rows.specs.Edits.{Whole, Replaced};
-ghost use Rattle.rows.specs.Layouts.{Sound, HasRoom, HasElement, Edited, Stands, shape_of, list_of, room_of};
-ghost use Rattle.rows.specs.Shape.{Shape, count_of, depth_of, elements, Rooted, Told, Summed};
-ghost use Rattle.std.specs.List.{slice_get, insert, remove, between};
+ghost use Rattle.rows.specs.Layouts.{Sound, Stands, shape_of, list_of, room_of};
+ghost use Rattle.rows.specs.Shape.{depth_of};
+ghost use Rattle.std.specs.List.{slice_get, between};
 
 use kinds::Kind;
-use refusals::{Layer, Refusal};
+use refusals::Refusal;
 use rows::{
     Heads, MOST, Row, count_of, delete_element, depth_of, element_at, insert_element,
     range_summary, replace,
 };
-use sequences::Sequence;
 use sequences::deep::Deep;
+use sequences::{NO_PLACE, Sequence};
 
-const NO_PLACE: Refusal = Refusal::NoPlace(Layer::Sequence);
-
-// The lent rows, apart from where the tree begins, so that the tree's type can speak of both.
-#[derive(Drop)]
-struct Store<'a, K: Kind> {
-    rows: &'a mut [Row<K::Element, K::Summary>],
-}
-
-impl<'a, K: Kind> Store<'a, K> {
-    fn count(&self, top: Option<u16>) -> u16
-        requires { (t : Shape K.Element K.Summary) × Rooted self.now.rows.now top t }
-        ensures { (t : Shape K.Element K.Summary) → Rooted self.now.rows.now top t → result ≡ count_of t }
-    {
-        count_of::<K>(self.rows, top)
-    }
-
-    fn depth(&self, top: Option<u16>) -> u8
-        requires { (t : Shape K.Element K.Summary) × Rooted self.now.rows.now top t }
-        ensures { (t : Shape K.Element K.Summary) → Rooted self.now.rows.now top t → result ≡ depth_of t }
-    {
-        depth_of::<K>(self.rows, top)
-    }
-
-    fn element(&self, top: Option<u16>, i: u16) -> Option<K::Element>
-        requires { (t : Shape K.Element K.Summary) × Rooted self.now.rows.now top t }
-        ensures { (t : Shape K.Element K.Summary) → Rooted self.now.rows.now top t → result ≡ slice_get (elements t) i }
-    {
-        element_at::<K>(self.rows, top, i)
-    }
-
-    fn range(&self, top: Option<u16>, i: u16, j: u16) -> K::Summary
-        requires { (t : Shape K.Element K.Summary) × Rooted self.now.rows.now top t × (i ≤ j) × (j ≤ count_of t) }
-        ensures { (t : Shape K.Element K.Summary) → Rooted self.now.rows.now top t → i ≤ j → j ≤ count_of t → Told K.Kind.rule t → result ≡ summary K.Kind.rule (between i j (elements t)) }
-    {
-        range_summary::<K>(self.rows, top, i, j)
-    }
-
-    fn insert(&mut self, heads: Heads, i: u16, element: K::Element) -> Heads
-        requires { (t : Shape K.Element K.Summary) × (fs : List ℕ) × HasRoom self.old.rows.now heads i t fs }
-        ensures { (t : Shape K.Element K.Summary) (fs : List ℕ) → HasRoom self.old.rows.now heads i t fs → Edited K.Kind.rule self.old.rows.now self.new.rows.now result (insert (elements t) i element) (Told K.Kind.rule t) }
-    {
-        insert_element::<K>(self.rows, heads, i, element)
-    }
-
-    fn delete(&mut self, heads: Heads, i: u16) -> Heads
-        requires { (t : Shape K.Element K.Summary) × (fs : List ℕ) × HasElement self.old.rows.now heads i t fs }
-        ensures { (t : Shape K.Element K.Summary) (fs : List ℕ) → HasElement self.old.rows.now heads i t fs → Edited K.Kind.rule self.old.rows.now self.new.rows.now result (remove (elements t) i) (Told K.Kind.rule t) }
-    {
-        delete_element::<K>(self.rows, heads, i)
-    }
-
-    fn replace(&mut self, top: Option<u16>, i: u16, element: K::Element)
-        requires { (t : Shape K.Element K.Summary) × Whole self.old.rows.now top t }
-        ensures { (t : Shape K.Element K.Summary) → Whole self.old.rows.now top t → Replaced K.Kind.rule self.old.rows.now self.new.rows.now i element top t }
-    {
-        replace::<K>(self.rows, top, i, element);
-    }
-}
-
-// A list as a balanced tree of rows. Its type says that the rows lie as `Sound` has it, so every call keeps that.
+// A list as a balanced tree of rows. Its type says that the rows lie as `Sound` has it, summaries and all, so every call
+// keeps that.
 #[derive(Drop)]
 pub struct Tree<'a, K: Kind> {
-    store: Store<'a, K>,
+    rows: &'a mut [Row<K::Element, K::Summary>],
     heads: Heads,
-    ghost sound: { ∥ Sound store.rows.now heads ∥₁ },
+    ghost sound: { ∥ Sound K.Kind.rule rows.now heads ∥₁ },
 }
 
 impl<'a, K: Kind> Tree<'a, K> {
     // An empty tree over the rows, which are left as they are.
     pub fn open(rows: &'a mut [Row<K::Element, K::Summary>]) -> Tree<'a, K>
-        ensures list { list_of result.store.rows.now result.heads.top ≡ [] }
-        ensures rows { result.store.rows.now ≡ rows.old }
-        ensures told { Summed K.Kind.rule (shape_of result.store.rows.now result.heads.top) }
+        ensures list { list_of result.rows.now result.heads.top ≡ [] }
+        ensures rows { result.rows.now ≡ rows.old }
     {
         Tree {
-            store: Store { rows },
+            rows,
             heads: Heads {
                 top: None,
                 free: None,
@@ -102,16 +42,37 @@ impl<'a, K: Kind> Tree<'a, K> {
     }
 
     fn room(&self) -> u16
-        ensures { result ≡ room_of self.now.store.rows.now }
+        ensures { result ≡ room_of self.now.rows.now }
     {
-        self.store.rows.len().min(MOST) as u16
+        self.rows.len().min(MOST) as u16
     }
 
+    // The questions of a sequence take `&mut self`, which lends no rows for reading: they ask these.
     fn len(&self) -> u16
-        ensures value { result ≡ length (list_of self.now.store.rows.now self.now.heads.top) }
-        ensures within { result ≤ room_of self.now.store.rows.now }
+        ensures value { result ≡ length (list_of self.now.rows.now self.now.heads.top) }
+        ensures within { result ≤ room_of self.now.rows.now }
     {
-        self.store.count(self.heads.top)
+        count_of::<K>(self.rows, self.heads.top)
+    }
+
+    fn levels(&self) -> u8
+        ensures { result ≡ depth_of (shape_of self.now.rows.now self.now.heads.top) }
+    {
+        depth_of::<K>(self.rows, self.heads.top)
+    }
+
+    fn get(&self, i: u16) -> Option<K::Element>
+        ensures { result ≡ slice_get (list_of self.now.rows.now self.now.heads.top) i }
+    {
+        element_at::<K>(self.rows, self.heads.top, i)
+    }
+
+    fn range(&self, i: u16, j: u16) -> K::Summary
+        requires order { i ≤ j }
+        requires within { j ≤ length (list_of self.now.rows.now self.now.heads.top) }
+        ensures { result ≡ summary K.Kind.rule (between i j (list_of self.now.rows.now self.now.heads.top)) }
+    {
+        range_summary::<K>(self.rows, self.heads.top, i, j)
     }
 }
 
@@ -122,11 +83,9 @@ impl<'a, K: Kind> Sequence for Tree<'a, K> {
 
     type Kind = K;
 
-    ghost list = { λ s. list_of s.store.rows.now s.heads.top };
+    ghost list = { λ s. list_of s.rows.now s.heads.top };
 
-    ghost room = { λ s. room_of s.store.rows.now };
-
-    ghost told = { λ s. Summed K.Kind.rule (shape_of s.store.rows.now s.heads.top) };
+    ghost room = { λ s. room_of s.rows.now };
 
     fn count(&mut self) -> u16 {
         self.len()
@@ -137,17 +96,14 @@ impl<'a, K: Kind> Sequence for Tree<'a, K> {
     }
 
     fn element_at(&mut self, i: u16) -> Result<K::Element, Refusal> {
-        match self.store.element(self.heads.top, i) {
-            Some(element) => Ok(element),
-            None => Err(NO_PLACE),
-        }
+        self.get(i).ok_or(NO_PLACE)
     }
 
     fn range_join(&mut self, i: u16, j: u16) -> Result<K::Summary, Refusal> {
         if i > j || j > self.len() {
             return Err(NO_PLACE);
         }
-        Ok(self.store.range(self.heads.top, i, j))
+        Ok(self.range(i, j))
     }
 
     fn insert(&mut self, i: u16, element: K::Element) -> Result<(), Refusal> {
@@ -158,8 +114,7 @@ impl<'a, K: Kind> Sequence for Tree<'a, K> {
         if count == self.room() {
             return Err(Refusal::Full);
         }
-        let heads = self.heads;
-        self.heads = self.store.insert(heads, i, element);
+        self.heads = insert_element::<K>(self.rows, self.heads, i, element);
         Ok(())
     }
 
@@ -167,8 +122,7 @@ impl<'a, K: Kind> Sequence for Tree<'a, K> {
         if i >= self.len() {
             return Err(NO_PLACE);
         }
-        let heads = self.heads;
-        self.heads = self.store.delete(heads, i);
+        self.heads = delete_element::<K>(self.rows, self.heads, i);
         Ok(())
     }
 
@@ -176,18 +130,17 @@ impl<'a, K: Kind> Sequence for Tree<'a, K> {
         if i >= self.len() {
             return Err(NO_PLACE);
         }
-        let top = self.heads.top;
-        self.store.replace(top, i, element);
+        replace::<K>(self.rows, self.heads.top, i, element);
         Ok(())
     }
 }
 
 impl<'a, K: Kind> Deep for Tree<'a, K> {
-    ghost levels = { λ s. depth_of (shape_of s.store.rows.now s.heads.top) };
+    ghost levels = { λ s. depth_of (shape_of s.rows.now s.heads.top) };
 
-    ghost stands = { λ s. Stands K.Kind.rule s.store.rows.now s.heads.top (list_of s.store.rows.now s.heads.top) (depth_of (shape_of s.store.rows.now s.heads.top)) (Summed K.Kind.rule (shape_of s.store.rows.now s.heads.top)) };
+    ghost stands = { λ s. Stands K.Kind.rule s.rows.now s.heads.top (list_of s.rows.now s.heads.top) (depth_of (shape_of s.rows.now s.heads.top)) };
 
     fn depth(&mut self) -> u8 {
-        self.store.depth(self.heads.top)
+        self.levels()
     }
 }

@@ -8,19 +8,9 @@ use super::Reader;
 use crate::fields::{Field, offset};
 use crate::lines::{LINE_ROOM, put_answer};
 use crate::whole::checked_at;
-use motion::Block;
 use plan::Plan;
-use plan::summaries::{PlanKind, Summary};
+use plan::summaries::Blocks;
 use refusals::Refusal;
-use sequences::Sequence;
-
-#[derive(Clone, Copy)]
-pub enum Outcome {
-    // A line of so many bytes was written.
-    Line(usize),
-    // The job is over.
-    Over,
-}
 
 impl<'a> Reader<'a> {
     // A reader at the job's first field.
@@ -31,17 +21,18 @@ impl<'a> Reader<'a> {
         Reader { job, place: 0 }
     }
 
-    // Runs the field at the reader's place on the plan, and writes its line.
-    pub fn step<S: Sequence<Element = Block, Summary = Summary, Kind = PlanKind>>(
+    // Runs the field at the reader's place on the plan, writes its line and answers the line's length, or none where the
+    // job is over.
+    pub fn step<S: Blocks>(
         &mut self,
         plan: &mut Plan<S>,
         line: &mut [u8],
-    ) -> Result<Outcome, Refusal>
+    ) -> Result<Option<usize>, Refusal>
         ensures job { self.new.job.now ≡ self.old.job.now }
         ensures place { self.new.place ≡ step_place (length line.old) self.old.job.now self.old.place }
         ensures refusal { refusal_of result ≡ step_refusal (length line.old) self.old.job.now self.old.place }
         ensures unmoved { Unmoved result (self.new ≡ self.old) (plan.new ≡ plan.old) (line.new ≡ line.old) }
-        ensures model { (b : Model) → Keeps S.Sequence.list S.Sequence.room S.Sequence.told b plan.old → Stepped S.Sequence.list S.Sequence.room S.Sequence.told b self.old.job.now self.old.place result line.old line.new plan.new }
+        ensures model { (b : Model) → Keeps S.Sequence.list S.Sequence.room b plan.old → Stepped S.Sequence.list S.Sequence.room b self.old.job.now self.old.place result line.old line.new plan.new }
         ensures bound { Bounded result self.old.place self.new.place }
     {
         if line.len() < LINE_ROOM {
@@ -54,9 +45,9 @@ impl<'a> Reader<'a> {
                 let answer = plan.apply(call);
                 let written = put_answer(line, answer, offset(at));
                 self.place = found.next;
-                Ok(Outcome::Line(written))
+                Ok(Some(written))
             }
-            Field::End(_) => Ok(Outcome::Over),
+            Field::End(_) => Ok(None),
         }
     }
 }

@@ -6,7 +6,7 @@ pub returns-in-Some : goal.returns-in-Some
 returns-in-Some g c =
     let s = g.S.Sequence in
     let b = opened (s.room c.args.blocks) in
-    let k = c.open-plan.ensures.model c.requires.told in
+    let k = c.open-plan.ensures.model in
     let ran = c.in-Some.ensures in
     record {
       short = λ h. let none = (ran.short h).none in absurd (let z : ◌≡◌ {A = ℕ} 0 1 = cc in omega arith);

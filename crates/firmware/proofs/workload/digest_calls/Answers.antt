@@ -9,7 +9,7 @@ pub loop-call-preserved : goal.loop-call-preserved
 loop-call-preserved g c =
     let s = g.S.Sequence in
     let work = c.args.work in
-    λ b k. along_more s.list s.room s.told b work.seed work.size work.mix c.loop-call.call c.loop-call.digest _ c.loop-call.plan _ c.call_at.result c.apply.result (c.loop-call.invariant b k) c.call_at.ensures c.apply.ensures.model c.digested-digest.ensures
+    λ b k. along_more s.list s.room b work.seed work.size work.mix c.loop-call.call c.loop-call.digest _ c.loop-call.plan _ c.drawn_call.result c.apply.result (c.loop-call.invariant b k) c.drawn_call.ensures c.apply.ensures.model c.digested-digest.ensures
 
 pub returns : goal.returns
 returns g c =
@@ -17,5 +17,5 @@ returns g c =
     let work = c.args.work in
     let all : c.loop-call.call ≡ work.count = omega arith in
     λ b k.
-    let so = subst (λ n. Along s.list s.room s.told b work.seed work.size work.mix n c.loop-call.digest c.loop-call.plan) all (c.loop-call.invariant b k) in
+    let so = subst (λ n. Along s.list s.room b work.seed work.size work.mix n c.loop-call.digest c.loop-call.plan) all (c.loop-call.invariant b k) in
     record { tells = so.tells; keeps = so.keeps }

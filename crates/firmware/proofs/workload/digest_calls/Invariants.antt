@@ -6,4 +6,4 @@ use Rattle.firmware.proofs.workload.digest_calls.Given as goal
 abbrev pub invariant-loop-call : goal.invariant-loop-call
 invariant-loop-call g l =
     let s = g.S.Sequence in
-    (b : Model) → Keeps s.list s.room s.told b l.initial.plan → Along s.list s.room s.told b l.work.seed l.work.size l.work.mix l.call l.digest l.plan
+    (b : Model) → Keeps s.list s.room b l.initial.plan → Along s.list s.room b l.work.seed l.work.size l.work.mix l.call l.digest l.plan

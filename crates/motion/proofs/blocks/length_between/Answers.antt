@@ -1,7 +1,7 @@
 use Rattle.std.proofs.Common.{subst}
 use Rattle.motion.specs.Figures.{apart, square_of}
 use Rattle.motion.specs.Roots.{WholeRoot}
-use Rattle.motion.proofs.Bounds.{square_valid}
+use Rattle.motion.proofs.Figures.{square_valid}
 use Rattle.motion.proofs.Rooted.{rooted}
 use Rattle.motion.proofs.blocks.length_between.Goals as goal
 

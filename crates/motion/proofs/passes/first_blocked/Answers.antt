@@ -1,14 +1,7 @@
-use Rattle.std.proofs.Common.{◌≡◌, ◌-◌, length, sym, ap, ◌∙◌, arith}
-use Rattle.motion.specs.Profiles.{blocked_from}
+use Rattle.std.proofs.Common.{sym, ap, ◌∙◌, arith}
 use Rattle.motion.specs.Runs.{run_down_rule}
 use Rattle.motion.proofs.Passing.{blocked_here, blocked_on, run_more}
 use Rattle.motion.proofs.passes.first_blocked.Goals as goal
-
-pub loop-m-init : goal.loop-m-init
-loop-m-init c =
-    let blocks = c.args.blocks.now in
-    let none : length blocks - 0 ≡ length blocks = omega arith in
-    (c.unit-run.ensures, ap (blocked_from blocks c.args.start 0) none)
 
 pub returns-then-start-through : goal.returns-then-start-through
 returns-then-start-through c =
@@ -24,11 +17,3 @@ loop-m-preserved c =
       c.join-run.ensures ∙ ap (run_down_rule.join c.loop-m.run) c.of.ensures ∙ run_more blocks m h c.loop-m.run inv.0,
       sym (blocked_on blocks m h c.args.start c.own_cap.result c.loop-m.run inv.0 c.own_cap.ensures (omega (arith, c.through.ensures, c.if-start-through.false))) ∙ inv.1,
     )
-
-pub returns : goal.returns
-returns c =
-    let blocks = c.args.blocks.now in
-    let m = c.loop-m.m in
-    let end : m ≡ length blocks = omega arith in
-    let none : length blocks - m ≡ 0 = omega arith in
-    sym end ∙ ap (blocked_from blocks c.args.start m) (sym none) ∙ c.loop-m.invariant.1

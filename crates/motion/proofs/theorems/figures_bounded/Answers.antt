@@ -1,4 +1,4 @@
-use Rattle.motion.proofs.Bounds.{figures_bounded}
+use Rattle.motion.proofs.Figures.{figures_bounded}
 use Rattle.motion.proofs.theorems.figures_bounded.Goals as goal
 
 pub returns : goal.returns

@@ -1,71 +1,37 @@
-use Rattle.std.proofs.Common.{Ok, Err, sym, refl, ap, ◌∙◌, arith}
-use Rattle.std.specs.List.{remove}
-use Rattle.sequences.specs.Lists.{delete_list}
-use Rattle.sequences.proofs.Rulings.{not_both, place_none}
+use Rattle.std.proofs.Common.{sym, ap, ◌∙◌, subst}
 use Rattle.motion.specs.Laid.{begun_again}
-use Rattle.plan.specs.Keeping.{start_of, begin_answer}
-use Rattle.plan.specs.Models.{Model, with_entries, delete_told}
-use Rattle.plan.proofs.Editing.{begins_past, begins_at, place_answered, deleted_keeps}
-use Rattle.plan.proofs.Exits.{passed_up}
-use Rattle.plan.proofs.Following.{follows_refused, follows_accepted, follows_from}
+use Rattle.plan.specs.Keeping.{Keeps}
+use Rattle.plan.proofs.Editing.{with_blocks, begin_refused, begin_made, place_answered, deleted_keeps}
+use Rattle.plan.proofs.Following.{refused, accepted}
 use Rattle.plan.proofs.Plan.delete.Goals as goal
 
-pub returns-in_err-begin : goal.returns-in_err-begin
-returns-in_err-begin g c =
+pub returns-in_err-begin-clause-model : goal.returns-in_err-begin-clause-model
+returns-in_err-begin-clause-model g c = λ b k.
     let s = g.S.Sequence in
-    let p = c.args.self.now in
-    let i = c.args.i in
     let why = c.in_err-begin.field-0.0 in
-    let r = c.from_residual.result in
-    let answer = λ (b : Model). delete_told b i in
-    let altered = λ (b : Model). with_entries b (remove b.entries i) in
-    let past = begins_past (start_of p) (s.list p.blocks) i why (sym c.begin_of.ensures.value ∙ c.in_err-begin.was) in
-    record {
-      model = follows_refused s.list s.room s.told answer altered p c.begin_of.new.self r why
-          (passed_up r why c.from_residual.ensures.1) c.begin_of.ensures.same
-          (λ b k. place_answered s.list s.room s.told b p k i ∙ place_none (s.list p.blocks) i (omega (arith, past.0)) ∙ ap Err (sym past.1));
-      refused = λ _ _. c.begin_of.ensures.same;
-    }
+    refused s.list s.room b _ _ _ _ why c.from_residual.ensures.1
+    (begin_refused s.list s.room b c.args.self.now k c.args.i why (sym c.begin_of.ensures.value ∙ c.in_err-begin.was))
+    (subst (Keeps s.list s.room b) (sym c.begin_of.ensures.same) k)
 
-pub returns-in_err-delete : goal.returns-in_err-delete
-returns-in_err-delete g c =
+pub returns-in_err-delete-clause-model : goal.returns-in_err-delete-clause-model
+returns-in_err-delete-clause-model g c = λ b k.
     let s = g.S.Sequence in
-    let p = c.args.self.now in
-    let i = c.args.i in
     let here = c.begin_of.new.self in
+    let there = subst (Keeps s.list s.room b) (sym c.begin_of.ensures.same) k in
     let why = c.in_err-delete.field-0.0 in
-    let r = c.from_residual-in_err-delete.result in
-    let answer = λ (b : Model). delete_told b i in
-    let altered = λ (b : Model). with_entries b (remove b.entries i) in
-    let same = ap (λ z. record { start_x = here.start_x; start_y = here.start_y; start_z = here.start_z; blocks = z }) (c.delete.ensures.refused why c.in_err-delete.was) in
-    record {
-      model = follows_from s.list s.room s.told answer _ p here _ r c.begin_of.ensures.same
-          (follows_refused s.list s.room s.told answer altered here _ r why (passed_up r why c.from_residual-in_err-delete.ensures.1) same
-          (λ b k. place_answered s.list s.room s.told b here k i ∙ sym c.delete.ensures.value ∙ c.in_err-delete.was));
-      refused = λ _ _. same ∙ c.begin_of.ensures.same;
-    }
+    refused s.list s.room b _ _ _ _ why c.from_residual-in_err-delete.ensures.1
+    (place_answered s.list s.room b here there c.args.i ∙ sym c.delete.ensures.value ∙ c.in_err-delete.was)
+    (subst (λ xs. Keeps s.list s.room b (with_blocks here xs)) (sym (c.delete.ensures.refused why c.in_err-delete.was)) there)
 
-pub returns : goal.returns
-returns g c =
+pub returns-clause-model : goal.returns-clause-model
+returns-clause-model g c = λ b k.
     let s = g.S.Sequence in
-    let p = c.args.self.now in
     let i = c.args.i in
+    let begin = c.in_ok-begin.begin in
     let here = c.begin_of.new.self in
-    let xs = s.list here.blocks in
-    let end = c.begin_again.new.self in
-    let answer = λ (b : Model). delete_told b i in
-    let altered = λ (b : Model). with_entries b (remove b.entries i) in
-    let accepted = sym c.delete.ensures.value ∙ c.in_ok-delete.was in
-    let asked = c.begin_of.ensures.same in
-    let begin = begins_at (start_of here) xs i _ (ap (λ z. begin_answer (start_of z) (s.list z.blocks) i) asked ∙ sym c.begin_of.ensures.value ∙ c.in_ok-begin.was) in
-    let made = c.begin_again.ensures.after ∙ ap (λ ys. begun_again ys i c.in_ok-begin.begin) c.delete.ensures.after ∙ ap (begun_again (delete_list xs i) i) begin in
-    record {
-      model = follows_from s.list s.room s.told answer _ p here end (Ok tt) asked
-          (follows_accepted s.list s.room s.told answer altered here end (Ok tt) tt refl
-          (λ b k. (
-            place_answered s.list s.room s.told b here k i ∙ accepted,
-            deleted_keeps s.list s.room s.told b here k end c.begin_again.ensures.start (c.begin_again.ensures.room ∙ c.delete.ensures.room)
-                (λ t. c.begin_again.ensures.told (c.delete.ensures.told t)) i accepted made,
-          )));
-      refused = λ why e. absurd (not_both e);
-    }
+    let there = subst (Keeps s.list s.room b) (sym c.begin_of.ensures.same) k in
+    let took = sym c.delete.ensures.value ∙ c.in_ok-delete.was in
+    accepted s.list s.room b _ _ _ tt (place_answered s.list s.room b here there i ∙ took)
+    (deleted_keeps s.list s.room b here there c.begin_again.new.blocks (c.begin_again.ensures.room ∙ c.delete.ensures.room) i begin
+    (begin_made s.list s.room b c.args.self.now k i begin (sym c.begin_of.ensures.value ∙ c.in_ok-begin.was)) took
+    (c.begin_again.ensures.after ∙ ap (λ ys. begun_again ys i begin) c.delete.ensures.after))

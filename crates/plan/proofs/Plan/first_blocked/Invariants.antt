@@ -6,10 +6,12 @@ abbrev pub invariant-loop-low : goal.invariant-loop-low
 invariant-loop-low g l =
     let s = g.S.Sequence in
     let xs = s.list l.initial.self.blocks in
-    (l.self ≡ l.initial.self)
-    × (l.low ≤ l.high)
-    × (l.high ≤ l.count)
-    × (s.told l.initial.self.blocks → (Starts xs (length xs) l.s → ⊥) → (l.low ≤ first_blocked xs l.s) × (first_blocked xs l.s ≤ l.high))
+    record {
+      same : l.self ≡ l.initial.self;
+      order : l.low ≤ l.high;
+      within : l.high ≤ l.count;
+      between : (Starts xs (length xs) l.s → ⊥) → (l.low ≤ first_blocked xs l.s) × (first_blocked xs l.s ≤ l.high);
+    }
 
 abbrev pub decreases-loop-low : goal.decreases-loop-low
 decreases-loop-low g l = l.high - l.low

@@ -7,7 +7,7 @@ pub row_at-row-requires : goal.row_at-row-requires
 row_at-row-requires g c = (free_some _ _ _ _ c.in-Some.is c.requires.1).within
 
 pub returns-then-used-room : goal.returns-then-used-room
-returns-then-used-room g c = λ fs ch. (free_none _ _ fs c.in-None.is ch, omega (arith, c.if-used-room.true, c.min-room.ensures))
+returns-then-used-room g c = λ fs ch. (free_none _ _ fs c.in_default.is ch, omega (arith, c.if-used-room.true, c.min-room.ensures))
 
 pub returns-in-Some : goal.returns-in-Some
 returns-in-Some g c = λ fs ch.

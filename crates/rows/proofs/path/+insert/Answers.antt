@@ -46,9 +46,9 @@ rebalance-requires-else-i-before g t c =
     let d = c.insert-right.ensures n.r (insert_right o j n.right h) in
     (n.l, d.t, ready_right (beside_right o c.args.element j d n.left h))
 
-pub returns-in-None : goal.returns-in-None
-returns-in-None g t c = λ u o.
-    let none = is_leaf u (sym c.in-None.is ∙ o.rooted.0) in
+pub returns-in_default : goal.returns-in_default
+returns-in_default g t c = λ u o.
+    let none = is_leaf u (sym c.in_default.is ∙ o.rooted.0) in
     let o' = subst (Insert c.args.rows.now c.args.top c.args.i c.args.fresh) none o in
     subst (Inserted g.K.Kind.rule c.args.rows.now c.refresh.new.rows c.args.i c.args.fresh c.args.element c.args.fresh) (sym none)
     (inserted_leaf o' (c.refresh.ensures leaf leaf (refl, tt) (refl, tt)))

@@ -1,8 +1,8 @@
-use Rattle.std.proofs.Common.{◌≡◌, ◌-◌, ◌≤◌, [], length, sym, ap, ◌∙◌, subst, arith}
+use Rattle.std.proofs.Common.{◌≡◌, ◌-◌, ◌≤◌, length, sym, ap, ◌∙◌, subst, arith}
 use Rattle.std.specs.List.{between}
 use Rattle.kinds.specs.Rules.{summary}
 use Rattle.rows.specs.Shape.{node, count_of, elements, Told}
-use Rattle.rows.proofs.Nodes.{is_leaf, top_row, falls_left, falls_right, length_elements}
+use Rattle.rows.proofs.Nodes.{top_row, falls_left, falls_right, length_elements}
 use Rattle.rows.proofs.Ranges.{summary_around, told_summary, between_left, between_right, between_both, between_all}
 use Rattle.rows.proofs.path.+range_summary.Goals as goal
 
@@ -38,19 +38,11 @@ range_summary-back-requires g t c κs =
     let all = subst (λ z. c.args.j ≤ count_of z) n.is c.requires.3 in
     λ ls. (falls_right n c.decreases _ n.right, (ls.0, (ls.1.0, (ls.1.1, (n.r, n.right, omega arith, omega (arith, c.if-j-before.false))))))
 
-pub returns-in-None : goal.returns-in-None
-returns-in-None g t c = λ u s order all told.
-    let m = g.K.Kind.rule in
-    let none = is_leaf u (sym c.in-None.is ∙ s.0) in
-    let empty = ap count_of none in
-    c.unit.ensures ∙ ap (summary m) (sym (between_all [] c.args.i c.args.j (omega arith) (omega arith)))
-    ∙ ap (λ z. summary m (between c.args.i c.args.j (elements z))) (sym none)
-
 pub returns-then-j-row : goal.returns-then-j-row
 returns-then-j-row g t c = λ u s order all told.
     let m = g.K.Kind.rule in
     let n = top_row u c.in-Some.is c.row_at-row.ensures s in
-    let whole = node c.in-Some.p n.x n.l n.r in
+    let whole = node c.in-Some.place n.x n.l n.r in
     let to_end : c.args.j ≡ count_of whole = c.if-j-row.true ∙ ap (λ z. z.count) n.row_is in
     ap (λ z. z.summary) n.row_is ∙ told_summary g.K.Kind.laws whole (subst (Told m) n.is told)
     ∙ ap (summary m) (sym (between_all (elements whole) c.args.i c.args.j (omega (arith, c.if-i-eq0.true)) (to_end ∙ sym (length_elements whole))))
@@ -80,8 +72,8 @@ returns-then-i-before g t c = λ u s order all told.
     ∙ ap (summary m) (sym (between_right (elements n.l) (elements n.r) n.x.element c.args.i c.args.j i j (omega (arith, c.if-i-before.true)) (omega (arith, c.if-i-before.true))))
     ∙ ap (λ z. summary m (between c.args.i c.args.j (elements z))) (sym n.is)
 
-pub returns-else-i-before : goal.returns-else-i-before
-returns-else-i-before g t c = λ u s order all told.
+pub returns : goal.returns
+returns g t c = λ u s order all told.
     let m = g.K.Kind.rule in
     let n = top_row u c.in-Some.is c.row_at-row.ensures s in
     let k = c.count_of-before.ensures n.l n.left in
@@ -97,7 +89,7 @@ returns-else-i-before g t c = λ u s order all told.
     let p2 = c.range_summary-back.ensures n.r n.right (omega arith) (omega (arith, c.if-j-before.false)) td.2 in
     let p3 = c.of.ensures in
     let p4 = c.join.ensures in
-    let p5 = c.join-in-Some.ensures in
+    let p5 = c.join-2.ensures in
     let q1 : c.range_summary-front.result ≡ summary m (between c.args.i (length xs) xs) = p1 ∙ ap (λ z. summary m (between c.args.i z xs)) here in
     let q2 : m.one c.row_at-row.result.element ≡ m.one x = ap m.one n.element in
     let parts = ap (summary m) (between_both xs ys x c.args.i c.args.j v (omega (arith, c.if-i-before.false)) (omega (arith, c.if-j-before.false)))

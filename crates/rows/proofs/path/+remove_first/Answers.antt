@@ -9,30 +9,30 @@ use Rattle.rows.proofs.path.+remove_first.Goals as goal
 pub remove_first-first-requires : goal.remove_first-first-requires
 remove_first-first-requires g t c κs =
     let n = top_row c.requires.0 refl c.row_at-row.ensures c.requires.1.rooted in
-    let o = subst (Whole c.args.rows.now (Some c.args.p)) n.is c.requires.1 in
-    let s : Rooted c.args.rows.now (Some c.in-Some.q) n.l = (sym c.in-Some.is ∙ n.left.0, n.left.1) in
+    let o = subst (Whole c.args.rows.now (Some c.args.place)) n.is c.requires.1 in
+    let s : Rooted c.args.rows.now (Some c.in-Some.below) n.l = (sym c.in-Some.is ∙ n.left.0, n.left.1) in
     λ ls. (falls_left n c.decreases _ s, (ls.0, (ls.1.0, (ls.1.1, (n.l, whole_left o s)))))
 
 pub rebalance-top-requires : goal.rebalance-top-requires
 rebalance-top-requires g t c =
     let n = top_row c.requires.0 refl c.row_at-row.ensures c.requires.1.rooted in
-    let o = subst (Whole c.args.rows.now (Some c.args.p)) n.is c.requires.1 in
-    let s : Rooted c.args.rows.now (Some c.in-Some.q) n.l = (sym c.in-Some.is ∙ n.left.0, n.left.1) in
+    let o = subst (Whole c.args.rows.now (Some c.args.place)) n.is c.requires.1 in
+    let s : Rooted c.args.rows.now (Some c.in-Some.below) n.l = (sym c.in-Some.is ∙ n.left.0, n.left.1) in
     let d = c.remove_first-first.ensures n.l (whole_left o s) in
     (d.edit.t, n.r, ready_left (fewer_left o _ d.edit n.right (count_first d)))
 
-pub returns-in-None : goal.returns-in-None
-returns-in-None g t c = λ u v.
+pub returns-in_default : goal.returns-in_default
+returns-in_default g t c = λ u v.
     let n = top_row u refl c.row_at-row.ensures v.rooted in
-    let o = subst (Whole c.args.rows.now (Some c.args.p)) n.is v in
-    subst (RemovedFirst g.K.Kind.rule c.args.rows.now c.args.rows.now c.args.p c.row_at-row.result.element c.row_at-row.result.right) (sym n.is)
-    (first_here o (is_leaf n.l (sym c.in-None.is ∙ n.left.0)) n.element n.right)
+    let o = subst (Whole c.args.rows.now (Some c.args.place)) n.is v in
+    subst (RemovedFirst g.K.Kind.rule c.args.rows.now c.args.rows.now c.args.place c.row_at-row.result.element c.row_at-row.result.right) (sym n.is)
+    (first_here o (is_leaf n.l (sym c.in_default.is ∙ n.left.0)) n.element n.right)
 
-pub returns-in-Some : goal.returns-in-Some
-returns-in-Some g t c = λ u v.
+pub returns : goal.returns
+returns g t c = λ u v.
     let n = top_row u refl c.row_at-row.ensures v.rooted in
-    let o = subst (Whole c.args.rows.now (Some c.args.p)) n.is v in
-    let s : Rooted c.args.rows.now (Some c.in-Some.q) n.l = (sym c.in-Some.is ∙ n.left.0, n.left.1) in
+    let o = subst (Whole c.args.rows.now (Some c.args.place)) n.is v in
+    let s : Rooted c.args.rows.now (Some c.in-Some.below) n.l = (sym c.in-Some.is ∙ n.left.0, n.left.1) in
     let d = c.remove_first-first.ensures n.l (whole_left o s) in
     let b = fewer_left o _ d.edit n.right (count_first d) in
     let a = c.rebalance-top.ensures d.edit.t n.r (ready_left b) in

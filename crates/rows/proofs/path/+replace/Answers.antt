@@ -1,8 +1,8 @@
-use Rattle.std.proofs.Common.{◌-◌, sym, ◌∙◌, subst, arith}
+use Rattle.std.proofs.Common.{◌-◌, sym, subst, arith}
 use Rattle.rows.specs.Edits.{Whole, Replaced}
-use Rattle.rows.proofs.Nodes.{is_leaf, top_row, falls_left, falls_right}
+use Rattle.rows.proofs.Nodes.{top_row, falls_left, falls_right}
 use Rattle.rows.proofs.Removes.{whole_left, whole_right}
-use Rattle.rows.proofs.Replaces.{alike_within, alike_sides, alike_here, alike_left, alike_right, replaced_here, replaced_left, replaced_right, replaced_leaf}
+use Rattle.rows.proofs.Replaces.{alike_sides, alike_here, alike_left, alike_right, replaced_here, replaced_left, replaced_right}
 use Rattle.rows.proofs.path.+replace.Goals as goal
 
 pub count_of-before-requires : goal.count_of-before-requires
@@ -16,12 +16,12 @@ replace-requires g t c κs =
     let o = subst (Whole c.args.rows.now c.args.side) n.is c.requires.1 in
     λ ls. (falls_left n c.decreases _ n.left, (ls.0, (ls.1.0, (ls.1.1, (n.l, whole_left o n.left)))))
 
-pub refresh-requires : goal.refresh-requires
-refresh-requires g t c =
+pub refresh-requires-clause-sides : goal.refresh-requires-clause-sides
+refresh-requires-clause-sides g t c =
     let n = top_row c.requires.0 c.in-Some.is c.row_at-row.ensures c.requires.1.rooted in
     let o = subst (Whole c.args.rows.now c.args.side) n.is c.requires.1 in
     let b = alike_left o n.left n.right c.args.element c.args.i (c.replace.ensures n.l (whole_left o n.left)) in
-    record { within = alike_within o b; sides = alike_sides o b }
+    alike_sides o b
 
 pub replace-requires-then-i-before-2 : goal.replace-requires-then-i-before-2
 replace-requires-then-i-before-2 g t c κs =
@@ -29,27 +29,20 @@ replace-requires-then-i-before-2 g t c κs =
     let o = subst (Whole c.args.rows.now c.args.side) n.is c.requires.1 in
     λ ls. (falls_right n c.decreases _ n.right, (ls.0, (ls.1.0, (ls.1.1, (n.r, whole_right o n.right)))))
 
-pub refresh-requires-then-i-before-2 : goal.refresh-requires-then-i-before-2
-refresh-requires-then-i-before-2 g t c =
+pub refresh-requires-then-i-before-2-clause-sides : goal.refresh-requires-then-i-before-2-clause-sides
+refresh-requires-then-i-before-2-clause-sides g t c =
     let n = top_row c.requires.0 c.in-Some.is c.row_at-row.ensures c.requires.1.rooted in
     let o = subst (Whole c.args.rows.now c.args.side) n.is c.requires.1 in
     let j = c.args.i - c.count_of-before.result - 1 in
     let b = alike_right o n.left n.right c.args.element j (c.replace-then-i-before-2.ensures n.r (whole_right o n.right)) in
-    record { within = alike_within o b; sides = alike_sides o b }
+    alike_sides o b
 
-pub refresh-requires-else-i-before-2 : goal.refresh-requires-else-i-before-2
-refresh-requires-else-i-before-2 g t c =
+pub refresh-requires-else-i-before-2-clause-sides : goal.refresh-requires-else-i-before-2-clause-sides
+refresh-requires-else-i-before-2-clause-sides g t c =
     let n = top_row c.requires.0 c.in-Some.is c.row_at-row.ensures c.requires.1.rooted in
     let o = subst (Whole c.args.rows.now c.args.side) n.is c.requires.1 in
     let b = alike_here o n.left n.right in
-    record { within = alike_within o b; sides = alike_sides o b }
-
-pub returns-in-None : goal.returns-in-None
-returns-in-None g t c = λ u o.
-    let none = is_leaf u (sym c.in-None.is ∙ o.rooted.0) in
-    let o' = subst (Whole c.args.rows.now c.args.side) none o in
-    subst (Replaced g.K.Kind.rule c.args.rows.now c.args.rows.now c.args.i c.args.element c.args.side) (sym none)
-    (replaced_leaf g.K.Kind.rule c.args.rows.now c.args.side c.args.i c.args.element o'.rooted)
+    alike_sides o b
 
 pub returns-then-i-before : goal.returns-then-i-before
 returns-then-i-before g t c = λ u v.

@@ -29,7 +29,7 @@ loop-high-init g c = (
   omega arith,
   c.requires.order,
   omega arith,
-  λ sound whole. record { from = omega arith; order = c.requires.order; within = omega arith; holds = sym whole; before = λ k h u. absurd (omega arith) },
+  λ whole. record { from = omega arith; order = c.requires.order; within = omega arith; holds = sym whole; before = λ k h u. absurd (omega arith) },
 )
 
 pub loop-high-preserved : goal.loop-high-preserved
@@ -45,9 +45,9 @@ loop-high-preserved g c =
       omega (arith, inv.1),
       down,
       inv.3,
-      λ sound whole.
-          let known : c.least.result ≡ summary thinnest (between low (middle low high) xs) = subst (λ z. s.told z.readings → c.least.result ≡ summary thinnest (between low (middle low high) (s.list z.readings))) inv.0 c.least.ensures.value sound.kept in
-          go_right xs sound.small c.args.i c.args.j c.args.reading low high c.requires.within (inv.4 sound whole) (middle low high) (omega arith) down
+      λ whole.
+          let known : c.least.result ≡ summary thinnest (between low (middle low high) xs) = subst (λ z. c.least.result ≡ summary thinnest (between low (middle low high) (s.list z.readings))) inv.0 c.least.ensures.value in
+          go_right xs c.args.self.now.sound c.args.i c.args.j c.args.reading low high c.requires.within (inv.4 whole) (middle low high) (omega arith) down
           (λ e. omega (arith, c.if-least-reading.false, known, e)),
     )
 
@@ -64,9 +64,9 @@ loop-high-preserved-then-least-reading g c =
       inv.1,
       up,
       omega (arith, inv.3),
-      λ sound whole.
-          let known : c.least.result ≡ summary thinnest (between low (middle low high) xs) = subst (λ z. s.told z.readings → c.least.result ≡ summary thinnest (between low (middle low high) (s.list z.readings))) inv.0 c.least.ensures.value sound.kept in
-          go_left xs sound.small c.args.i c.args.j c.args.reading low high c.requires.within (inv.4 sound whole) (middle low high) up (omega arith)
+      λ whole.
+          let known : c.least.result ≡ summary thinnest (between low (middle low high) xs) = subst (λ z. c.least.result ≡ summary thinnest (between low (middle low high) (s.list z.readings))) inv.0 c.least.ensures.value in
+          go_left xs c.args.self.now.sound c.args.i c.args.j c.args.reading low high c.requires.within (inv.4 whole) (middle low high) up (omega arith)
           (omega (arith, c.if-least-reading.true, known)),
     )
 
@@ -76,6 +76,6 @@ returns g c =
     let low = c.loop-high.low in
     let high = c.loop-high.high in
     record {
-      value = λ sound whole. one_left (g.S.Sequence.list c.args.self.now.readings) sound.small c.args.i c.args.j c.args.reading low high c.requires.within (inv.4 sound whole) (omega (arith, c.loop-high-test.false)) whole;
+      value = λ whole. one_left (g.S.Sequence.list c.args.self.now.readings) c.args.self.now.sound c.args.i c.args.j c.args.reading low high c.requires.within (inv.4 whole) (omega (arith, c.loop-high-test.false)) whole;
       same = inv.0;
     }
