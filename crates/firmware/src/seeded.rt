@@ -174,6 +174,7 @@ impl Draws {
         if self.call < u32::from(self.size) {
             return self.filling();
         }
+        // A mix is a byte of C, and no closure that could be handed over.
         match mix {
             Mix::Everything => self.everything(),
             Mix::Replacing => self.replacing(),

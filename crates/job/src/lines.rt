@@ -8,8 +8,8 @@ use refusals::{Named, Refusal};
 // The least buffer, which every line fits into.
 pub(crate) const LINE_ROOM: usize = 64;
 
-// A line that is being written into the front of the caller's buffer. Each part asks for the room that it needs itself, and
-// says that the buffer is the same one, as the language wants of what takes a struct with a lent slice.
+// A line that is being written into the front of the caller's buffer. No type holds the room that is left, since each part needs
+// another, nor that the buffer is the same one: the language wants that clause of what takes a struct with a lent slice.
 #[derive(Drop)]
 struct Line<'a> {
     bytes: &'a mut [u8],
@@ -27,7 +27,7 @@ impl Line<'_> {
         self.end = end;
     }
 
-    // Writes `n` in decimal, digit by digit: nothing here allocates.
+    // Writes `n` in decimal, digit by digit: by a rule of the project lines are byte strings in the caller's buffer.
     fn put_number(&mut self, n: u32)
         requires { self.old.end + 10 ≤ length self.old.bytes.now }
         ensures same_reference { self.new.bytes.ghost_name ≡ self.old.bytes.ghost_name }

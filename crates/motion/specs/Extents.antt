@@ -63,17 +63,47 @@ same_bounds p q = cc
 clamped_fits : (z : ℤ) → signed32 (clamped z)
 clamped_fits z = (omega (arith, ints, clamps), omega (arith, ints, clamps))
 
+greatest_signed : signed32 greatest32
+greatest_signed = (omega (arith, ints), omega (arith, ints))
+
+least_signed : signed32 least32
+least_signed = (omega (arith, ints), omega (arith, ints))
+
+least_fits : (a b : ℤ) → signed32 a → signed32 b → signed32 (int_min a b)
+least_fits a b p q = (omega (arith, ints, clamps), omega (arith, ints, clamps))
+
+greatest_fits : (a b : ℤ) → signed32 a → signed32 b → signed32 (int_max a b)
+greatest_fits a b p q = (omega (arith, ints, clamps), omega (arith, ints, clamps))
+
+least_left : (a : ℤ) → signed32 a → int_min greatest32 a ≡ a
+least_left a p = omega (arith, ints, clamps)
+
+least_right : (a : ℤ) → signed32 a → int_min a greatest32 ≡ a
+least_right a p = omega (arith, ints, clamps)
+
+greatest_left : (a : ℤ) → signed32 a → int_max least32 a ≡ a
+greatest_left a p = omega (arith, ints, clamps)
+
+greatest_right : (a : ℤ) → signed32 a → int_max a least32 ≡ a
+greatest_right a p = omega (arith, ints, clamps)
+
+least_assoc : (a b c : ℤ) → int_min (int_min a b) c ≡ int_min a (int_min b c)
+least_assoc a b c = omega (arith, ints, clamps)
+
+greatest_assoc : (a b c : ℤ) → int_max (int_max a b) c ≡ int_max a (int_max b c)
+greatest_assoc a b c = omega (arith, ints, clamps)
+
 pub bounds_laws : Laws fits_bounds bounds_rule
 bounds_laws = record {
   one_valid = λ z. (clamped_fits z, clamped_fits z);
-  unit_valid = ((omega (arith, ints), omega (arith, ints)), (omega (arith, ints), omega (arith, ints)));
-  join_valid = λ a b p q. ((omega (arith, ints, clamps), omega (arith, ints, clamps)), (omega (arith, ints, clamps), omega (arith, ints, clamps)));
-  unit_left = λ a p. same_bounds (omega (arith, ints, clamps)) (omega (arith, ints, clamps));
-  unit_right = λ a p. same_bounds (omega (arith, ints, clamps)) (omega (arith, ints, clamps));
-  assoc = λ a b c p q r. same_bounds (omega (arith, ints, clamps)) (omega (arith, ints, clamps));
+  unit_valid = (greatest_signed, least_signed);
+  join_valid = λ a b p q. (least_fits a.least b.least p.0 q.0, greatest_fits a.greatest b.greatest p.1 q.1);
+  unit_left = λ a p. same_bounds (least_left a.least p.0) (greatest_left a.greatest p.1);
+  unit_right = λ a p. same_bounds (least_right a.least p.0) (greatest_right a.greatest p.1);
+  assoc = λ a b c p q r. same_bounds (least_assoc a.least b.least c.least) (greatest_assoc a.greatest b.greatest c.greatest);
 }
 
-same_extent : {a b c d e f : Bounds} → a ≡ d → b ≡ e → c ≡ f → extent a b c ≡ extent d e f
+pub same_extent : {a b c d e f : Bounds} → a ≡ d → b ≡ e → c ≡ f → extent a b c ≡ extent d e f
 same_extent p q r = cc
 
 -- axis by axis

@@ -1,6 +1,6 @@
 -- Run-up and run-down: what a range of blocks does to a squared speed, from its start to its end and back.
 use Rattle.std.specs.Prelude.{◌≡◌, ℕ, ◌≤◌, min}
-use Rattle.std.proofs.Common.{sym, arith}
+use Rattle.std.proofs.Common.{sym, ap, ◌∙◌, arith}
 use Rattle.kinds.specs.Rules.{Rule, Laws}
 use Rattle.kinds.specs.Sums.{◌⊕◌, top, sum_laws}
 use Rattle.motion.specs.declared.blocks.Block.{Block}
@@ -42,9 +42,23 @@ run_down_rule = record {
 same_run : {c d k l : ℕ} → c ≡ d → k ≡ l → run c k ≡ run d l
 same_run p q = cc
 
+min_plus : (a b c : ℕ) → min a b ⊕ c ≡ min (a ⊕ c) (b ⊕ c)
+min_plus a b c = omega arith
+
+min_assoc : (a b c : ℕ) → min a (min b c) ≡ min (min a b) c
+min_assoc a b c = omega arith
+
+-- one run after another, at c
+pub nested : (a b c g h : ℕ) → min a (min b (c ⊕ g) ⊕ h) ≡ min (min a (b ⊕ h)) (c ⊕ (g ⊕ h))
+nested a b c g h =
+    ap (min a) (min_plus b (c ⊕ g) h ∙ ap (min (b ⊕ h)) (sum_laws.assoc c g h)) ∙ min_assoc a (b ⊕ h) (c ⊕ (g ⊕ h))
+
+pub nested_down : (a b c g h : ℕ) → min (min a (b ⊕ h)) (c ⊕ (h ⊕ g)) ≡ min a (min b (c ⊕ g) ⊕ h)
+nested_down a b c g h = ap (λ n. min (min a (b ⊕ h)) (c ⊕ n)) (sum_laws.comm h g) ∙ sym (nested a b c g h)
+
 -- a speed goes through one run, and then through the other
 pub through_followed : (x y : Run) (s : ℕ) → through (followed x y) s ≡ through y (through x s)
-through_followed x y s = omega arith
+through_followed x y s = sym (nested y.cap x.cap s x.change y.change)
 
 pub through_unit : (s : ℕ) → s ≤ top → through no_run s ≡ s
 through_unit s h = omega arith

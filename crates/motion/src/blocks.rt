@@ -132,7 +132,7 @@ impl Block {
         self.change()
     }
 
-    // What the squared speed may fall by along the block: the rules and the contracts name it apart from the rise.
+    // What the squared speed may fall by along the block. A figure of its own by the rules, so one name for both is no plainer.
     pub fn fall(self) -> u32
         ensures { result ≡ fall_of self }
     {

@@ -74,7 +74,7 @@ impl Move {
     }
 }
 
-// A position is printed axis by axis: an array has no `Display` of ours.
+// By a rule of the project a position is an array, which has no `Display` of ours.
 impl fmt::Display for Move {
     fn fmt<W: fmt::Write>(&self, f: &mut fmt::Formatter<W>) -> fmt::Result {
         let Move {

@@ -116,7 +116,7 @@ fn first_blocked(blocks: &[Block], start: u32) -> usize
 }
 
 // Both passes, from the caps of the junctions to the speeds. The speeds go beside the blocks, since there is one junction more
-// than there are blocks.
+// than there are blocks; a struct of these and the start would be made in `plan_speeds` only, which is no plainer.
 fn both_passes(speeds: &mut [u32], blocks: &[Block], start: u32) -> Result<(), Unplanned>
     requires { speeds.old ≡ junction_caps blocks.now }
     ensures { IfPlanned (λ _. speeds.new) result (λ outcome. outcome ≡ planned blocks.now start) }

@@ -36,6 +36,7 @@ impl fmt::Display for Call {
                 f,
                 "override from {i} to {j} at {percent} percent"
             ),
+            // By a rule of the project a position is an array, which has no `Display` of ours.
             Call::Start(position) => {
                 let [x, y, z] = position;
                 write!(f, "start at ({x}, {y}, {z})")

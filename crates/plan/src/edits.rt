@@ -99,7 +99,8 @@ impl<S: Blocks> Plan<S> {
         Ok(())
     }
 
-    // Puts a move in the place of block `i`, at full override.
+    // Puts a move in the place of block `i`, at full override. One function for both would take the sequence's call as a
+    // closure, which is longer than the call.
     pub fn replace(&mut self, i: u16, m: Move) -> Result<(), Refusal>
         ensures model { Follows S.Sequence.list S.Sequence.room (λ b. replace_told b i m) (λ b. replace_model b i m) self.old self.new result }
         ensures refused { (why : Refusal) → result ≡ Err why → self.new ≡ self.old }
@@ -132,7 +133,7 @@ impl<S: Blocks> Plan<S> {
         Ok(())
     }
 
-    // Refuses a range that there is not.
+    // Refuses a range that there is not, by the plan's own refusal.
     fn check_range(&mut self, i: u16, j: u16) -> Result<(), Refusal>
         ensures value { result ≡ ranged no_range (S.Sequence.list self.old.blocks) i j tt }
         ensures same { self.new ≡ self.old }

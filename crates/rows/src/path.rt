@@ -1,5 +1,6 @@
 // Edits and questions at a place of the list: each walks down from the top, and an edit refreshes the rows on its way
-// back. The arms to the left and to the right are written out: they differ in the place that they pass on, besides the hand.
+// back. The arms to the left and to the right are written out: they differ in the place that they pass on, besides the hand,
+// so one by the hand is no plainer.
 ghost use Rattle.std.specs.Prelude.{◌≡◌, ℕ, ◌≤◌, ◌++◌, Some};
 ghost use Rattle.kinds.specs.Rules.{summary};
 ghost use Rattle.rows.specs.Edits.{Insert, Inserted, Whole, Taken, RemovedFirst, Remove, Removed, Replaced};

@@ -76,6 +76,7 @@ impl<'a, K: Kind> Tree<'a, K> {
     }
 }
 
+// Each implementation finds what the rules refuse by a count and a room of its own.
 impl<'a, K: Kind> Sequence for Tree<'a, K> {
     type Element = K::Element;
 
