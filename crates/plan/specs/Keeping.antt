@@ -37,8 +37,8 @@ block_answer start blocks i m = checked (check_move m) (placed blocks i (block_a
 module _ {S : Type 0} (list : S → List Block) (room : S → ℕ) where
   -- the plan p stands for the model b: its start and room are the model's, its sequence holds the model's blocks,
   -- and what the model holds was accepted. Contracts speak of every model that a plan stands for, and no type
-  -- names one. Tried by the moves that the blocks were made from, and the proof does not close: of the moves in a list of
-  -- calls it is not known that each target has three coordinates, and the blocks have no more.
+  -- names one: the model that could be made from the blocks has targets of three coordinates, and of the targets in a list
+  -- of calls it is not known how many they have.
   pub record Keeps (b : Model) (p : Plan S) : Type 0 where
     pub starts : start_of p ≡ b.start
     pub fits : room p.blocks ≡ b.room

@@ -18,7 +18,7 @@ pub mod summaries;
 const NO_RANGE: Refusal = Refusal::NoPlace(Layer::Plan);
 
 // The start stays plain fields, as the places in a block are: a position is an array only where it is passed. The contracts
-// speak of every model that the plan keeps (specs/Keeping.antt): tried to name one in the type, and the proof does not close.
+// speak of every model that the plan keeps (specs/Keeping.antt).
 #[derive(Drop)]
 pub struct Plan<S> {
     start_x: i32,
