@@ -1,17 +1,12 @@
 -- A list of answers as one number, and what a workload comes to.
-use Rattle.std.specs.Prelude.{◌≡◌, ℕ, ◌+◌, ◌-◌, ◌*◌, ◌%◌, ◌^◌, ◌≤◌, List, ℤ, negsuc, ◌-ℤ◌, Some, None, Ok, Err, fold, Option, Result, unsigned_abs}
+use Rattle.std.specs.Prelude.{ℕ, ◌+◌, ◌-◌, ◌*◌, ◌%◌, ◌^◌, ◌≤◌, List, ℤ, negsuc, ◌-ℤ◌, Some, None, Ok, Err, fold, Option, Result, unsigned_abs}
 use Rattle.kinds.specs.Balance.{fewest}
 use Rattle.refusals.specs.Table.{number_of, named_of}
 use Rattle.refusals.specs.declared.Named.{Named}
 use Rattle.refusals.specs.declared.Named.TheVariants as named
 use Rattle.refusals.specs.declared.Refusal.{Refusal}
-use Rattle.motion.specs.declared.blocks.Block.{Block}
 use Rattle.motion.specs.declared.extents.Bounds.{Bounds}
 use Rattle.motion.specs.declared.extents.Extent.{Extent}
-use Rattle.plan.specs.Calls.{answers, after_all}
-use Rattle.plan.specs.Keeping.{Keeps}
-use Rattle.plan.specs.Models.{Model}
-use Rattle.plan.specs.declared.Plan.{Plan}
 use Rattle.plan.specs.declared.calls.Answer.{Answer}
 use Rattle.plan.specs.declared.calls.Answer.TheVariants as told
 use Rattle.plan.specs.declared.calls.Call.{Call}
@@ -24,7 +19,7 @@ junction_code None code = code
 junction_code (Some (named.Junction junction)) code = code + junction
 junction_code (Some (named.Offset offset)) code = code
 
--- the number of a refusal above 40 bits, and the junction that it names
+-- 2^40, the number of a refusal above 32 bits, and the junction that it names below them
 abbrev pub refusal_code : Refusal → ℕ
 refusal_code why = junction_code (named_of why) (1099511627776 + number_of why * 4294967296)
 
@@ -81,9 +76,3 @@ work_calls work = calls_of work.seed work.size work.mix work.count
 pub record DeepAs (d n : ℕ) : Type 0 where
   pub least : fewest d ≤ n
   pub most : n ≤ 2 ^ d - 1
-
-module _ {S : Type 0} (list : S → List Block) (room : S → ℕ) where
-  -- a workload from the model b told a digest and led to a plan that stands for the model after it
-  pub record Worked (b : Model) (work : Workload) (digest : ℕ) (p : Plan S) : Type 0 where
-    pub tells : digest ≡ digest_of (answers b (work_calls work))
-    pub keeps : Keeps list room (after_all b (work_calls work)) p

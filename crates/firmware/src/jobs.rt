@@ -14,7 +14,8 @@ use refusals::{Named, Refusal};
 // What C is answered, which takes no `Option`, where the buffer is too short: no text is as long.
 const SHORT: u64 = u64::MAX;
 
-// A number, since C takes no enum of ours. The digest's code of a refusal is another number with another name in it.
+// A number, since C takes no enum of ours: that of a refusal above 32 bits, and the offset below. The digest's code of a refusal is
+// another definition (`workload::refusal_code`).
 fn fault_code(why: Refusal) -> u64
     ensures { result ≡ fault_code why }
 {
@@ -35,7 +36,7 @@ pub(crate) fn verdict_of(job: &[u8]) -> u64
     }
 }
 
-// Runs a job on a new plan over any sequence that is still empty, and writes its text at the front of a buffer.
+// Runs a job on a new plan over any sequence that is still empty, as its opening asks, and writes its text at the front of a buffer.
 pub(crate) fn run_over<S: Blocks + Drop>(blocks: S, job: &[u8], text: &mut [u8]) -> u64
     requires { S.Sequence.list blocks ≡ [] }
     ensures { Ran (opened (S.Sequence.room blocks)) job.now text.old text.new result }

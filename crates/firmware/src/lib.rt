@@ -11,7 +11,7 @@ ghost use Rattle.job.specs.Verdicts.{verdict_of};
 ghost use Rattle.plan.specs.Calls.{answers, after_all};
 ghost use Rattle.plan.specs.Models.{opened};
 
-use motion::{Block, Move};
+use motion::Block;
 use plan::summaries::{PlanKind, Summary};
 use rows::{Row, idle};
 use sequences::flat::FlatList;
@@ -32,13 +32,9 @@ const MOST_ROWS: usize = 4096;
 
 const MOST_SLOTS: usize = 256;
 
-// What a row or a slot holds before its first use.
-fn idle_block() -> Block {
-    Block::new([0, 0, 0], Move::IDLE, 100)
-}
-
+// What a row holds before its first use.
 fn idle_row() -> Row<Block, Summary> {
-    idle::<PlanKind>(idle_block())
+    idle::<PlanKind>(Block::idle())
 }
 
 // The verdict on a job.
@@ -49,7 +45,8 @@ pub extern "C" fn jigsorrel_verdict(job: &[u8]) -> u64
     jobs::verdict_of(job)
 }
 
-// Runs a job on a new plan over a tree of 256 rows.
+// Runs a job on a new plan over a tree of 256 rows. Rows live on the stack of the function that opens a tree over them, so each
+// exported function opens its own.
 #[unsafe(no_mangle)]
 pub extern "C" fn jigsorrel_run_job(job: &[u8], text: &mut [u8]) -> u64
     ensures { Ran (opened 256) job.now text.old text.new result }
@@ -84,7 +81,7 @@ pub extern "C" fn jigsorrel_depth_after(seed: u64, size: u16, mix: u8, count: u3
 pub extern "C" fn jigsorrel_calls_on_list(seed: u64, size: u16, mix: u8, count: u32) -> u64
     ensures { result ≡ digest_of (answers (opened 256) (calls_of seed size (mix_of mix) count)) }
 {
-    let mut slots = [idle_block(); MOST_SLOTS];
+    let mut slots = [Block::idle(); MOST_SLOTS];
     let blocks: FlatList<PlanKind> = FlatList::open(&mut slots);
     digest_over(blocks, Workload::new(seed, size, mix, count))
 }

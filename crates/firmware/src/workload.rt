@@ -1,10 +1,10 @@
 // Seeded calls on a plan, for comparison with another program and for benchmarks.
 ghost use Rattle.std.specs.Prelude.{◌≡◌, [], length};
-ghost use Rattle.firmware.specs.Digests.{refusal_code, coordinate_code, with_coordinate, with_bounds, extent_code, code_of, digested_by, digest_of, workload, Worked, work_calls, DeepAs};
+ghost use Rattle.firmware.specs.Digests.{refusal_code, coordinate_code, with_coordinate, with_bounds, extent_code, code_of, digested_by, digest_of, workload, work_calls, DeepAs};
 ghost use Rattle.firmware.specs.Seeded.{mix_of};
 ghost use Rattle.plan.specs.Calls.{answers, after_all};
-ghost use Rattle.plan.specs.Keeping.{Keeps};
-ghost use Rattle.plan.specs.Models.{Model, opened};
+ghost use Rattle.plan.specs.Meaning.{model_of};
+ghost use Rattle.plan.specs.Models.{opened};
 
 use crate::NUMBERS;
 use crate::seeded::{Draws, Mix};
@@ -42,7 +42,8 @@ const REFUSED: u64 = 1_099_511_627_776;
 
 const DIGEST_FACTOR: u64 = 1_099_511_628_211;
 
-// A number, since C takes no enum of ours.
+// A number, since C takes no enum of ours. A definition of its own beside a fault's code: a verdict names no junction and an answer of
+// a plan no offset, and each leaves the other's name out.
 fn refusal_code(why: Refusal) -> u64
     ensures { result ≡ refusal_code why }
 {
@@ -105,10 +106,12 @@ fn digested(digest: u64, answer: Answer) -> u64
 }
 
 fn digest_calls<S: Blocks>(plan: &mut Plan<S>, work: Workload) -> u64
-    ensures { (b : Model) → Keeps S.Sequence.list S.Sequence.room b plan.old → Worked S.Sequence.list S.Sequence.room b work result plan.new }
+    ensures value { result ≡ digest_of (answers (model_of S.Sequence.list S.Sequence.room plan.old) (work_calls work)) }
+    ensures after { model_of S.Sequence.list S.Sequence.room plan.new ≡ after_all (model_of S.Sequence.list S.Sequence.room plan.old) (work_calls work) }
 {
     let mut digest = 0;
-    // By the number of each call, from which it is drawn.
+    // By the number of each call, from which it is drawn: a fold by a closure that changes the plan would leave nothing that is
+    // known of it.
     for call in 0..work.count {
         let draws = Draws {
             seed: work.seed,
@@ -120,6 +123,7 @@ fn digest_calls<S: Blocks>(plan: &mut Plan<S>, work: Workload) -> u64
     digest
 }
 
+// Over an empty sequence, as the opening of a plan asks.
 pub(crate) fn digest_over<S: Blocks + Drop>(blocks: S, work: Workload) -> u64
     requires { S.Sequence.list blocks ≡ [] }
     ensures { result ≡ digest_of (answers (opened (S.Sequence.room blocks)) (work_calls work)) }
@@ -128,6 +132,7 @@ pub(crate) fn digest_over<S: Blocks + Drop>(blocks: S, work: Workload) -> u64
     digest_calls(&mut plan, work)
 }
 
+// Over an empty sequence, as the opening of a plan asks.
 pub(crate) fn depth_over<S: Blocks + Deep + Drop>(blocks: S, work: Workload) -> u8
     requires { S.Sequence.list blocks ≡ [] }
     ensures { DeepAs result (length (after_all (opened (S.Sequence.room blocks)) (work_calls work)).entries) }

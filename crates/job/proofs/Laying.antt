@@ -1,9 +1,8 @@
 -- One write after another.
-use Rattle.std.proofs.Common.{◌≡◌, ℕ, ◌+◌, ◌≤◌, List, [], ◌++◌, length, take, drop, sym, refl, ap, ◌∙◌, zero-add, arith, length-append}
+use Rattle.std.proofs.Common.{◌≡◌, ℕ, ◌+◌, ◌≤◌, List, ◌++◌, length, sym, refl, ap, ◌∙◌, arith, length-append}
 use lib.Seq.{paste}
-use Rattle.std.proofs.lemmas.List.{take-append-drop}
 use Rattle.std.proofs.lemmas.List.Edits.{paste_all, paste-paste}
-use Rattle.job.specs.Lines.{Grown, laid, over}
+use Rattle.job.specs.Lines.{Grown, laid}
 use Rattle.job.specs.declared.lines.Line.{Line}
 
 laid_paste : (line : List ℕ) (at : ℕ) (bs : List ℕ) → laid line at bs ≡ paste line at bs (length bs)
@@ -17,16 +16,6 @@ laid_on line at bs cs h =
     ∙ ap (paste line at (bs ++ cs)) (sym (length-append bs cs))
     ∙ sym (laid_paste line at (bs ++ cs))
 
--- nothing written
-pub grown_none : (a : Line) → Grown [] a a
-grown_none a =
-    let here : a.end ≡ a.end + 0 = omega arith in
-    record {
-      end = here;
-      bytes = sym (take-append-drop a.end a.bytes.now) ∙ ap (λ n. take a.end a.bytes.now ++ drop n a.bytes.now) here;
-      room = refl;
-    }
-
 -- two writes one after the other
 pub grown_then : (bs cs : List ℕ) (a b c : Line) → a.end ≤ length a.bytes.now → Grown bs a b → Grown cs b c → Grown (bs ++ cs) a c
 grown_then bs cs a b c h first next = record {
@@ -34,7 +23,3 @@ grown_then bs cs a b c h first next = record {
   bytes = next.bytes ∙ (λ i. laid (first.bytes i) (first.end i) cs) ∙ laid_on a.bytes.now a.end bs cs h;
   room = next.room ∙ first.room;
 }
-
--- a line from the front of its buffer on
-pub whole_line : (bs : List ℕ) (a b : Line) → a.end ≡ 0 → Grown bs a b → b.bytes.now ≡ over bs a.bytes.now
-whole_line bs a b none grown = grown.bytes ∙ ap (λ at. laid a.bytes.now at bs) none ∙ ap (λ n. bs ++ drop n a.bytes.now) (zero-add (length bs))

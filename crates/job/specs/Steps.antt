@@ -2,11 +2,8 @@
 use Rattle.std.specs.Prelude.{◌≡◌, ℕ, ◌+◌, ◌≤◌, cond, List, [], length, Some, None, Ok, Err, Option, Result, nat_lt}
 use Rattle.refusals.specs.declared.Refusal.{Refusal}
 use Rattle.refusals.specs.declared.Refusal.TheVariants.{Buffer}
-use Rattle.motion.specs.declared.blocks.Block.{Block}
 use Rattle.plan.specs.Calls.{answer, after}
-use Rattle.plan.specs.Keeping.{Keeps}
 use Rattle.plan.specs.Models.{Model}
-use Rattle.plan.specs.declared.Plan.{Plan}
 use Rattle.job.specs.Fields.{offset_of}
 use Rattle.job.specs.Lines.{answer_line, over}
 use Rattle.job.specs.Verdicts.{checked_at}
@@ -86,10 +83,8 @@ Unmoved (Ok (Some written)) reader plan line = Unit {0}
 Unmoved (Ok None) reader plan line = reader × plan × line
 Unmoved (Err why) reader plan line = reader × plan × line
 
-module _ {S : Type 0} (list : S → List Block) (room : S → ℕ) where
-  -- a step from the model b told r, laid its line over the front of the buffer, and led to a plan that stands for the
-  -- model after it
-  pub record Stepped (b : Model) (bs : List ℕ) (at : ℕ) (r : Result (Option ℕ) Refusal) (before after : List ℕ) (p : Plan S) : Type 0 where
-    pub tells : r ≡ step_told b (length before) bs at
-    pub line : after ≡ over (step_line b (length before) bs at) before
-    pub keeps : Keeps list room (step_model b (length before) bs at) p
+-- from the model b, a step told r, laid its line over the front of the buffer, and left the model after it
+pub record Stepped (b : Model) (bs : List ℕ) (at : ℕ) (r : Result (Option ℕ) Refusal) (before after : List ℕ) (left : Model) : Type 0 where
+  pub tells : r ≡ step_told b (length before) bs at
+  pub line : after ≡ over (step_line b (length before) bs at) before
+  pub leaves : left ≡ step_model b (length before) bs at

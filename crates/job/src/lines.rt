@@ -2,6 +2,7 @@
 ghost use Rattle.std.specs.Prelude.{◌≡◌, ◌+◌, ◌≤◌, length, decimal};
 ghost use Rattle.job.specs.Lines.{Grown, over, speed_line, refused_line, named_part, place_named, answer_line};
 
+use itoa::Buffer;
 use plan::calls::Answer;
 use refusals::{Named, Refusal};
 
@@ -27,17 +28,15 @@ impl Line<'_> {
         self.end = end;
     }
 
-    // Writes `n` in decimal, digit by digit: by a rule of the project lines are byte strings in the caller's buffer.
+    // Writes `n` in decimal.
     fn put_number(&mut self, n: u32)
         requires { self.old.end + 10 ≤ length self.old.bytes.now }
         ensures same_reference { self.new.bytes.ghost_name ≡ self.old.bytes.ghost_name }
         ensures bound { self.new.end ≤ self.old.end + 10 }
         ensures grown { Grown (decimal n) self.old self.new }
     {
-        if n >= 10 {
-            self.put_number(n / 10);
-        }
-        self.put(&[b'0' + (n % 10) as u8]);
+        let mut digits = Buffer::new();
+        self.put(digits.format(n).as_bytes());
     }
 
     fn put_speed(&mut self, speed: u32)

@@ -1,27 +1,28 @@
-// Numbers in a row of bytes, the most significant byte first. Each type reads as many bytes as it has by its own
-// `from_be_bytes`, which no trait names: one generic function would want a trait of three impls. Each is read by its place, which a body's layout fixes.
+// Numbers in a row of bytes, the most significant byte first, each read at its place, which a body's layout fixes.
 ghost use Rattle.std.specs.Prelude.{◌≡◌, ◌+◌, ◌≤◌, length};
 ghost use Rattle.job.specs.Numbers.{u16_at, u32_at, i32_at, position_at};
+
+use byteorder::{BigEndian, ByteOrder};
 
 pub fn read_u16(bytes: &[u8], at: usize) -> u16
     requires { at + 2 ≤ length bytes.now }
     ensures { result ≡ u16_at bytes.now at }
 {
-    u16::from_be_bytes([bytes[at], bytes[at + 1]])
+    BigEndian::read_u16(&bytes[at..])
 }
 
 pub fn read_u32(bytes: &[u8], at: usize) -> u32
     requires { at + 4 ≤ length bytes.now }
     ensures { result ≡ u32_at bytes.now at }
 {
-    u32::from_be_bytes([bytes[at], bytes[at + 1], bytes[at + 2], bytes[at + 3]])
+    BigEndian::read_u32(&bytes[at..])
 }
 
 pub fn read_i32(bytes: &[u8], at: usize) -> i32
     requires { at + 4 ≤ length bytes.now }
     ensures { result ≡ i32_at bytes.now at }
 {
-    i32::from_be_bytes([bytes[at], bytes[at + 1], bytes[at + 2], bytes[at + 3]])
+    BigEndian::read_i32(&bytes[at..])
 }
 
 pub fn read_position(bytes: &[u8], at: usize) -> [i32; 3]

@@ -3,8 +3,8 @@ ghost use Rattle.std.specs.Prelude.{◌≡◌, ℕ, ◌+◌, ◌*◌, ◌<◌, �
 ghost use Rattle.job.specs.Outputs.{lines_of, placed_calls, model_after, job_output, job_model};
 ghost use Rattle.job.specs.Texts.{text_room, Short, Wrote};
 ghost use Rattle.job.specs.Verdicts.{verdict_of};
-ghost use Rattle.plan.specs.Keeping.{Keeps};
-ghost use Rattle.plan.specs.Models.{Model, opened};
+ghost use Rattle.plan.specs.Meaning.{model_of};
+ghost use Rattle.plan.specs.Models.{opened};
 ghost use Rattle.refusals.specs.declared.Refusal.{Refusal};
 
 use crate::lines::{LINE_ROOM, put_answer};
@@ -31,7 +31,8 @@ fn text_room(job: &[u8]) -> usize
 fn run_fields<S: Blocks>(plan: &mut Plan<S>, job: &[u8], text: &mut [u8]) -> usize
     requires whole { verdict_of job.now ≡ Ok tt }
     requires room { length job.now * 16 ≤ length text.old }
-    ensures { (b : Model) → Keeps S.Sequence.list S.Sequence.room b plan.old → Wrote S.Sequence.list S.Sequence.room (lines_of b (placed_calls job.now)) (model_after b (placed_calls job.now)) result text.old text.new plan.new }
+    ensures value { Wrote (lines_of (model_of S.Sequence.list S.Sequence.room plan.old) (placed_calls job.now)) result text.old text.new }
+    ensures after { model_of S.Sequence.list S.Sequence.room plan.new ≡ model_after (model_of S.Sequence.list S.Sequence.room plan.old) (placed_calls job.now) }
 {
     let mut reader = Reader::new(job);
     let mut at = 0;
@@ -44,7 +45,8 @@ fn run_fields<S: Blocks>(plan: &mut Plan<S>, job: &[u8], text: &mut [u8]) -> usi
 // Runs a whole job on a plan and writes its text at the front of a buffer that has room for it, as `run_into` does.
 fn run_within<S: Blocks>(plan: &mut Plan<S>, job: &[u8], text: &mut [u8]) -> usize
     requires { text_room (length job.now) ≤ length text.old }
-    ensures value { (b : Model) → Keeps S.Sequence.list S.Sequence.room b plan.old → Wrote S.Sequence.list S.Sequence.room (job_output b job.now) (job_model b job.now) result text.old text.new plan.new }
+    ensures value { Wrote (job_output (model_of S.Sequence.list S.Sequence.room plan.old) job.now) result text.old text.new }
+    ensures after { model_of S.Sequence.list S.Sequence.room plan.new ≡ job_model (model_of S.Sequence.list S.Sequence.room plan.old) job.now }
     ensures refused { (why : Refusal) → verdict_of job.now ≡ Err why → plan.new ≡ plan.old }
 {
     match verdict(job) {
@@ -59,7 +61,8 @@ fn run_within<S: Blocks>(plan: &mut Plan<S>, job: &[u8], text: &mut [u8]) -> usi
 pub fn run_into<S: Blocks>(plan: &mut Plan<S>, job: &[u8], text: &mut [u8]) -> Option<usize>
     ensures told { is_some result ≡ nat_le (text_room (length job.now)) (length text.old) }
     ensures short { length text.old < text_room (length job.now) → Short result (plan.new ≡ plan.old) (text.new ≡ text.old) }
-    ensures value { text_room (length job.now) ≤ length text.old → (b : Model) → Keeps S.Sequence.list S.Sequence.room b plan.old → (n : ℕ) × (result ≡ Some n) × Wrote S.Sequence.list S.Sequence.room (job_output b job.now) (job_model b job.now) n text.old text.new plan.new }
+    ensures value { text_room (length job.now) ≤ length text.old → (n : ℕ) × (result ≡ Some n) × Wrote (job_output (model_of S.Sequence.list S.Sequence.room plan.old) job.now) n text.old text.new }
+    ensures after { text_room (length job.now) ≤ length text.old → model_of S.Sequence.list S.Sequence.room plan.new ≡ job_model (model_of S.Sequence.list S.Sequence.room plan.old) job.now }
     ensures refused { (why : Refusal) → verdict_of job.now ≡ Err why → plan.new ≡ plan.old }
 {
     if text.len() < text_room(job) {
@@ -71,8 +74,8 @@ pub fn run_into<S: Blocks>(plan: &mut Plan<S>, job: &[u8], text: &mut [u8]) -> O
 // Runs a whole job on a plan, and answers what it prints: a line for each field, or the one line of a job that the
 // verdict refuses, of which nothing is run. Where there is no memory for the text, the plan is left as it was.
 pub fn run<S: Blocks>(heap: Global, plan: &mut Plan<S>, job: &[u8]) -> Result<Vec<u8>, AllocError>
-    ensures value { (b : Model) → Keeps S.Sequence.list S.Sequence.room b plan.old → IfOk result (λ v. v.items ≡ job_output b job.now) }
-    ensures after { is_ok result ≡ true → (b : Model) → Keeps S.Sequence.list S.Sequence.room b plan.old → Keeps S.Sequence.list S.Sequence.room (job_model b job.now) plan.new }
+    ensures value { IfOk result (λ v. v.items ≡ job_output (model_of S.Sequence.list S.Sequence.room plan.old) job.now) }
+    ensures after { is_ok result ≡ true → model_of S.Sequence.list S.Sequence.room plan.new ≡ job_model (model_of S.Sequence.list S.Sequence.room plan.old) job.now }
     ensures refused { is_ok result ≡ false → plan.new ≡ plan.old }
 {
     let mut text = vec![in heap; 0u8; text_room(job)]?;
@@ -81,7 +84,7 @@ pub fn run<S: Blocks>(heap: Global, plan: &mut Plan<S>, job: &[u8]) -> Result<Ve
     Ok(text)
 }
 
-// Runs a whole job on a new plan over any sequence of blocks that is still empty.
+// Runs a whole job on a new plan over any sequence of blocks that is still empty, as the opening of a plan asks.
 pub fn run_over<S: Blocks + Drop>(
     heap: Global,
     blocks: S,

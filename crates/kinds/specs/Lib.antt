@@ -2,3 +2,4 @@ pub mod Rules
 pub mod Sums
 pub mod Models
 pub mod Balance
+pub mod Texts

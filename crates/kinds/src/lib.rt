@@ -5,6 +5,7 @@ ghost use Rattle.std.specs.Prelude.{◌≡◌, ℕ, List, ◌++◌};
 ghost use Rattle.kinds.specs.Rules.{Rule, Laws, summary};
 ghost use Rattle.kinds.specs.Sums.{◌⊕◌, SumLaws};
 ghost use Rattle.kinds.specs.Models.{thinnest, fits16, thinnest_laws, summed, fits32, summed_laws, both, valid_both, both_laws};
+ghost use Rattle.kinds.specs.Texts.{pair_text};
 
 use std::fmt;
 use std::marker::PhantomData;
@@ -142,6 +143,8 @@ pub struct Pair<A, B> {
 }
 
 impl<A: fmt::Display, B: fmt::Display> fmt::Display for Pair<A, B> {
+    ghost output = { pair_text A.output B.output };
+
     fn fmt<W: fmt::Write>(&self, f: &mut fmt::Formatter<W>) -> fmt::Result {
         let first = &self.first;
         let second = &self.second;

@@ -30,6 +30,14 @@ next_begin : (s : List ℤ) (x : Entry) (bs : List Block) (i : ℕ) (m : Move) (
 next_begin s x bs zero m p = refl
 next_begin s x bs (suc i) m p = refl
 
+-- each block is the one of its entry, where the one before it ends
+pub laid_get_or : (s : List ℤ) (es : List Entry) (i : ℕ) (e : Entry) → i < length es → get_or (laid s es) i idle ≡ block_at s (laid s es) i (get_or es i e)
+laid_get_or s [] i e h = absurd (omega arith)
+laid_get_or s (x ∷ xs) zero e h = refl
+laid_get_or s (x ∷ xs) (suc i) e h =
+    laid_get_or x.move.target xs i e (omega arith)
+    ∙ next_begin s x (laid x.move.target xs) i (get_or xs i e).move (get_or xs i e).percent
+
 pub laid_restart : (s : List ℤ) (es : List Entry) (p : List ℤ) → laid p es ≡ begun_again (laid s es) 0 p
 laid_restart s [] p = refl
 laid_restart s (e ∷ es) p = refl

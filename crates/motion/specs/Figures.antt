@@ -1,5 +1,5 @@
 -- A block as it is made from a move, and its figures.
-use Rattle.std.specs.Prelude.{◌≡◌, ℕ, ◌+◌, ◌*◌, ◌/◌, ◌≤◌, min, max, List, [], ◌∷◌, ℤ, ◌-ℤ◌, unsigned_abs}
+use Rattle.std.specs.Prelude.{◌≡◌, ℕ, ◌+◌, ◌*◌, ◌/◌, ◌≤◌, min, max, List, [], ◌∷◌, ℤ, pos, ◌-ℤ◌, unsigned_abs}
 use Rattle.kinds.specs.Sums.{top}
 use Rattle.motion.specs.declared.moves.Move.{Move}
 use Rattle.motion.specs.declared.blocks.Block.{Block}
@@ -32,6 +32,13 @@ block_of p m percent = record {
   percent = percent;
   length = length_of p m.target;
 }
+
+abbrev pub origin : List ℤ
+origin = pos 0 ∷ pos 0 ∷ pos 0 ∷ []
+
+-- a move that goes nowhere
+abbrev pub idle_move : Move
+idle_move = record { target = origin; acceleration = 1; feed = 1; corner = 0 }
 
 abbrev pub target_of : Block → List ℤ
 target_of b = b.x ∷ b.y ∷ b.z ∷ []

@@ -3,11 +3,12 @@ ghost use Rattle.std.specs.Prelude.{◌≡◌, ◌+◌, ◌*◌, ◌<◌, ◌≤
 ghost use Rattle.kinds.specs.Sums.{top};
 ghost use Rattle.motion.specs.Ranges.{ValidPosition};
 ghost use Rattle.motion.specs.Roots.{WholeRoot};
-ghost use Rattle.motion.specs.Figures.{square_of, apart, length_of, block_of, begun_at, at_percent, target_of, change_of, rise_of, fall_of, feed_of, own_cap, corner_cap};
+ghost use Rattle.motion.specs.Figures.{square_of, apart, length_of, origin, idle_move, block_of, begun_at, at_percent, target_of, change_of, rise_of, fall_of, feed_of, own_cap, corner_cap};
 
 use crate::moves::Move;
 
-// Plain numbers, so that a row of a tree can hold one. The length is computed once, when the block is made.
+// Plain numbers and no arrays: of an array in a list of blocks it is not known that it has three. The length is computed once,
+// when the block is made.
 #[derive(Clone, Copy, PartialEq, Eq, Debug)]
 pub struct Block {
     pub begin_x: i32,
@@ -79,6 +80,13 @@ fn squared(speed: u32) -> u32
 }
 
 impl Block {
+    // What rows and slots hold before their first use: a move that goes nowhere, at full override.
+    pub fn idle() -> Block
+        ensures { result ≡ block_of origin idle_move 100 }
+    {
+        Block::new([0, 0, 0], Move::IDLE, 100)
+    }
+
     pub fn new(begin: [i32; 3], m: Move, percent: u8) -> Block
         ensures { result ≡ block_of begin m percent }
     {

@@ -1,6 +1,7 @@
 // Positions and moves, and the ranges that they keep to.
-ghost use Rattle.std.specs.Prelude.{◌≡◌, ◌↔◌, Ok};
+ghost use Rattle.std.specs.Prelude.{◌≡◌, ◌↔◌, Some, Ok};
 ghost use Rattle.motion.specs.Ranges.{position_fits, check_position, ValidPosition, rates_fit, check_move, ValidMove};
+ghost use Rattle.motion.specs.Texts.{move_text};
 
 use refusals::Refusal;
 use std::fmt;
@@ -76,6 +77,8 @@ impl Move {
 
 // By a rule of the project a position is an array, which has no `Display` of ours.
 impl fmt::Display for Move {
+    ghost output = { λ move. Some (move_text move) };
+
     fn fmt<W: fmt::Write>(&self, f: &mut fmt::Formatter<W>) -> fmt::Result {
         let Move {
             target,

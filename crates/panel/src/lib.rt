@@ -23,7 +23,7 @@ pub struct Told {
     pub depth: u8,
 }
 
-// Opens a plan over any empty sequence that is a tree, and makes the calls.
+// Opens a plan over any sequence that is a tree, and empty, as the opening asks; and makes the calls.
 fn run_deep<S: Blocks + Deep + Drop>(
     heap: Global,
     blocks: S,

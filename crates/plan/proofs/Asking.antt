@@ -1,5 +1,5 @@
 -- What a plan's questions read off the summaries of ranges.
-use Rattle.std.proofs.Common.{◌≡◌, ℕ, ◌≤◌, Bool, true, false, cond, ltb, List, length, Some, Ok, Err, Result, sym, ap, ◌∙◌, subst, ⊎_elim, arith}
+use Rattle.std.proofs.Common.{◌≡◌, ℕ, ◌≤◌, Bool, true, false, cond, ltb, List, length, ℤ, Some, Ok, Err, Result, sym, ap, ◌∙◌, subst, ⊎_elim, arith}
 use Rattle.std.specs.Bool.{then_some}
 use Rattle.std.specs.List.{between}
 use Rattle.std.specs.Result.{MatchResult, IsOkAnd}
@@ -18,12 +18,11 @@ use Rattle.motion.specs.declared.runs.Run.{Run}
 use Rattle.motion.specs.Extents.{reach_rule, span_rule}
 use Rattle.motion.specs.Runs.{run_up_rule, run_down_rule}
 use Rattle.sequences.specs.Lists.{ranged}
-use Rattle.sequences.proofs.Rulings.{ranged_by_length, range_there, not_both}
-use Rattle.plan.specs.declared.Plan.{Plan}
-use Rattle.plan.specs.Keeping.{Keeps}
+use Rattle.sequences.proofs.Rulings.{range_told}
+use Rattle.plan.specs.Keeping.{Lie, modelled}
 use Rattle.plan.specs.Models.{Model, blocks_of, box_of, no_range, plan_rule, reach_told, span_told}
 use Rattle.plan.specs.Promises.{ReachRight, SpanRight}
-use Rattle.plan.proofs.Editing.{same_length}
+use Rattle.plan.proofs.Editing.{ranged_answered}
 use Rattle.plan.proofs.Elements.{ok_from_is_ok_and}
 use Rattle.plan.proofs.Extents.{some_box, reach_right, span_right}
 
@@ -39,12 +38,6 @@ parts xs =
 
 -- what is told of a range that there is, or why none is
 module _ {X : Type 0} (xs : List Block) (i j : ℕ) (x : X) where
-  pub range_told : (y : X) → ranged no_range xs i j x ≡ Ok y → (i ≤ j) × (j ≤ length xs) × (y ≡ x)
-  range_told y told = grind (arith, nat_tests)
-
-  pub range_untold : (why : Refusal) → ranged no_range xs i j x ≡ Err why → (why ≡ no_range) × ((i ≤ j → j ≤ length xs → ⊥))
-  range_untold why told = (grind (arith, nat_tests), λ order within. not_both (sym (range_there no_range xs i j x order within) ∙ told))
-
   -- what a question makes of it
   by_cases : {Y : Type 0} (f : X → Y) (told : Result X Refusal) (r : Result Y Refusal) (P : X → Y → Type 0) (b c : Bool) → told ≡ cond b (Err no_range) (cond c (Err no_range) (Ok x)) → MatchResult told (λ z. IsOkAnd r (P z)) (λ e. r ≡ Err e) → ((z : X) (y : Y) → P z y → y ≡ f z) → r ≡ cond b (Err no_range) (cond c (Err no_range) (Ok (f x)))
   by_cases f told r P true c is cases means = MatchResult-at_err (λ z. IsOkAnd r (P z)) (λ e. r ≡ Err e) no_range is cases
@@ -62,7 +55,7 @@ module _ {X : Type 0} (xs : List Block) (i j : ℕ) (x : X) where
 -- the runs of a range that is told, over the same blocks by another name
 module _ (xs ys : List Block) (same : ys ≡ xs) (i j : ℕ) (y : Summary) (told : ranged no_range ys i j (summary plan_rule (between i j ys)) ≡ Ok y) where
   read : y ≡ summary plan_rule (between i j xs)
-  read = (range_told ys i j _ y told).2 ∙ ap (λ zs. summary plan_rule (between i j zs)) same
+  read = (range_told no_range ys i j _ y told).2 ∙ ap (λ zs. summary plan_rule (between i j zs)) same
 
   pub run_up_read : y.first.first ≡ summary run_up_rule (between i j xs)
   run_up_read = ap (λ z. z.first.first) (read ∙ parts (between i j xs))
@@ -80,20 +73,20 @@ box_told xs i j order within =
     ap (λ t. then_some t x) (le-ltb i j none) ∙ sym (ap box_of (ap (λ n. between i n xs) (sym same) ∙ between_none xs i)))
     (cases_lt i j)
 
-module _ {S : Type 0} (list : S → List Block) (room : S → ℕ) (b : Model) (p : Plan S) (k : Keeps list room b p) (i j : ℕ) where
+module _ (start : List ℤ) (room : ℕ) (xs : List Block) (lie : Lie start xs) (i j : ℕ) where
+  abbrev b : Model
+  b = modelled start room xs
+
   -- what is told of a range of the blocks is told of that range of the model
-  pub ranged_kept : {X : Type 0} (x : X) → ranged no_range (list p.blocks) i j x ≡ ranged no_range b.entries i j x
-  ranged_kept x = ranged_by_length no_range (list p.blocks) b.entries i j x (same_length list room b p k)
+  told_of_model : {X : Type 0} (f : List Block → X) → ranged no_range xs i j (f xs) ≡ ranged no_range b.entries i j (f (blocks_of b))
+  told_of_model f = sym (ranged_answered xs i j (f xs)) ∙ ap (λ ys. ranged no_range b.entries i j (f ys)) lie.along
 
-  kept : {X : Type 0} (f : List Block → X) → ranged no_range (list p.blocks) i j (f (list p.blocks)) ≡ ranged no_range b.entries i j (f (blocks_of b))
-  kept f = ap (λ xs. ranged no_range (list p.blocks) i j (f xs)) k.holds ∙ ranged_kept (f (blocks_of b))
-
-  pub reach_tells : (r : _) → r ≡ ranged no_range (list p.blocks) i j (then_some (ltb i j) (summary plan_rule (between i j (list p.blocks))).second.first) → (r ≡ reach_told b i j) × ReachRight (blocks_of b) i j r
+  pub reach_tells : (r : _) → r ≡ ranged no_range xs i j (then_some (ltb i j) (summary plan_rule (between i j xs)).second.first) → (r ≡ reach_told b i j) × ReachRight (blocks_of b) i j r
   reach_tells r told =
-      let tells : r ≡ reach_told b i j = told ∙ told_same (list p.blocks) i j _ _ (box_told (list p.blocks) i j) ∙ kept (λ xs. box_of (between i j xs)) in
-      (tells, subst (ReachRight (blocks_of b) i j) (sym tells) (reach_right b i j k.entries))
+      let tells : r ≡ reach_told b i j = told ∙ told_same xs i j _ _ (box_told xs i j) ∙ told_of_model (λ ys. box_of (between i j ys)) in
+      (tells, subst (ReachRight (blocks_of b) i j) (sym tells) (reach_right b i j lie.entries))
 
-  pub span_tells : (r : _) → r ≡ ranged no_range (list p.blocks) i j (summary plan_rule (between i j (list p.blocks))).second.second → (r ≡ span_told b i j) × SpanRight (blocks_of b) i j r
+  pub span_tells : (r : _) → r ≡ ranged no_range xs i j (summary plan_rule (between i j xs)).second.second → (r ≡ span_told b i j) × SpanRight (blocks_of b) i j r
   span_tells r told =
-      let tells : r ≡ span_told b i j = told ∙ ap (λ z. ranged no_range (list p.blocks) i j z.second.second) (parts (between i j (list p.blocks))) ∙ kept (λ xs. summary span_rule (between i j xs)) in
+      let tells : r ≡ span_told b i j = told ∙ ap (λ z. ranged no_range xs i j z.second.second) (parts (between i j xs)) ∙ told_of_model (λ ys. summary span_rule (between i j ys)) in
       (tells, subst (SpanRight (blocks_of b) i j) (sym tells) (span_right b i j))

@@ -1,5 +1,5 @@
 -- What is told of a block that is read at a place, by whether there is one.
-use Rattle.std.proofs.Common.{◌≡◌, ℕ, suc, ◌<◌, ◌≤◌, List, length, get_or, ℤ, Ok, Err, Result, sym, refl, ap, ◌∙◌, ⊎_elim, arith}
+use Rattle.std.proofs.Common.{◌≡◌, ℕ, ◌<◌, ◌≤◌, List, length, get_or, Ok, Err, Result, sym, refl, ap, ◌∙◌, ⊎_elim}
 use Rattle.std.specs.Result.{MatchResult, IsOkAnd}
 use Rattle.std.proofs.lemmas.Bool.{cases_lt}
 use Rattle.std.proofs.lemmas.Option.{slice_get-get_or}
@@ -8,12 +8,10 @@ use Rattle.refusals.specs.declared.Refusal.{Refusal}
 use Rattle.sequences.specs.Lists.{no_place, found, element_answer}
 use Rattle.sequences.proofs.Rulings.{element_none}
 use Rattle.motion.specs.declared.blocks.Block.{Block}
-use Rattle.motion.specs.Figures.{own_cap, target_of}
-use Rattle.motion.specs.Laid.{begin_of, idle}
+use Rattle.motion.specs.Figures.{own_cap}
+use Rattle.motion.specs.Laid.{idle}
 use Rattle.motion.specs.Profiles.{own_at}
 use Rattle.motion.proofs.Lawfulness.{own_at_is, own_past}
-use Rattle.plan.specs.Keeping.{begin_answer}
-use Rattle.plan.proofs.Editing.{placed_within, placed_past}
 
 pub ok_from_is_ok_and : {X Y : Type 0} (P : X → Type 0) (r : Result X Y) → IsOkAnd r P → (x : X) × (r ≡ Ok x) × P x
 ok_from_is_ok_and P (Ok x) met = (x, refl, met)
@@ -26,12 +24,6 @@ module _ (blocks : List Block) (i : ℕ) (told : Result Block Refusal) (is : tol
       (λ within. there within (MatchResult-at_ok P Q (get_or blocks i idle) (is ∙ ap found (slice_get-get_or blocks i idle within)) cases))
       (λ out. past out (MatchResult-at_err P Q no_place (is ∙ element_none blocks i out) cases))
       (cases_lt i (length blocks))
-
-  pub begins_after : (start : List ℤ) (r : Result (List ℤ) Refusal) (P : Block → List ℤ → Type 0) → MatchResult told (λ x. IsOkAnd r (P x)) (λ e. r ≡ Err e) → ((x : Block) (p : List ℤ) → P x p → p ≡ target_of x) → r ≡ begin_answer start blocks (suc i)
-  begins_after start r P cases means =
-      read (λ x. IsOkAnd r (P x)) (λ e. r ≡ Err e) cases
-      (λ within met. let ok = ok_from_is_ok_and (P (get_or blocks i idle)) r met in ok.1 ∙ ap Ok (means (get_or blocks i idle) ok.0 ok.2) ∙ sym (placed_within blocks (suc i) (begin_of start blocks (suc i)) (omega arith)))
-      (λ out met. met ∙ sym (placed_past blocks (suc i) (begin_of start blocks (suc i)) (omega arith)))
 
   pub owns : (r : ℕ) (P : Block → Type 0) → MatchResult told P (λ _. r ≡ 0) → ((x : Block) → P x → r ≡ own_cap x) → r ≡ own_at blocks i
   owns r P cases means =

@@ -1,19 +1,21 @@
--- How a call follows the model: where it is refused, and where it is accepted.
-use Rattle.std.proofs.Common.{◌≡◌, ℕ, List, IsErrAnd, Ok, Err, Result, sym, ap, ◌∙◌, subst}
-use Rattle.std.proofs.lemmas.Result.{err_from_is_err_and}
+-- What an accepted call of a plan leaves, and when two plans are one.
+use Rattle.std.proofs.Common.{◌≡◌, List, ℤ, Ok, Result, sym, ap, ◌∙◌}
+use mathlib.Core.HLevel.{is_prop→PathP}
+use Rattle.std.proofs.Props.{props}
 use Rattle.refusals.specs.declared.Refusal.{Refusal}
 use Rattle.motion.specs.declared.blocks.Block.{Block}
-use Rattle.plan.specs.declared.Plan.{Plan}
-use Rattle.plan.specs.Keeping.{Keeps}
-use Rattle.plan.specs.Models.{Model, settled}
+use Rattle.plan.specs.declared.Plan.{Plan, lie-type}
+use Rattle.plan.specs.Keeping.{Lie}
+use Rattle.plan.specs.Models.{settled}
 
--- a `?` passes a refusal upward unaltered
-pub passed_up : {T : Type 0} (r : Result T Refusal) (why : Refusal) → IsErrAnd r (λ y. y ≡ why) → r ≡ Err why
-passed_up r why left = let p = err_from_is_err_and r left in p.1 ∙ ap Err p.2
+-- a call that was accepted leaves what it makes of the model
+pub made_so : {T X : Type 0} (told : Result T Refusal) (altered before after : X) (x : T) → told ≡ Ok x → after ≡ altered → after ≡ settled told altered before
+made_so told altered before after x e same = same ∙ sym (ap (λ z. settled z altered before) e)
 
-module _ {S : Type 0} (list : S → List Block) (room : S → ℕ) (b : Model) (q : Plan S) {A : Type 0} (told : Result A Refusal) (altered : Model) where
-  pub refused : (r : Result A Refusal) (why : Refusal) → IsErrAnd r (λ y. y ≡ why) → told ≡ Err why → Keeps list room b q → (r ≡ told) × Keeps list room (settled told altered b) q
-  refused r why left e k = (passed_up r why left ∙ sym e, subst (λ z. Keeps list room (settled z altered b) q) (sym e) k)
+-- the facts that a plan keeps have one proof at most
+lie_one : (start : List ℤ) (blocks : List Block) → IsProp (Lie start blocks)
+lie_one start blocks = hlevel props
 
-  pub accepted : (x : A) → told ≡ Ok x → Keeps list room altered q → (Ok x ≡ told) × Keeps list room (settled told altered b) q
-  accepted x e k = (sym e, subst (λ z. Keeps list room (settled z altered b) q) (sym e) k)
+-- so plans of the same start over the same blocks are one
+pub same_plan : {S : Type 0} {g h : _} (p q : Plan S g h) → p.start_x ≡ q.start_x → p.start_y ≡ q.start_y → p.start_z ≡ q.start_z → p.blocks ≡ q.blocks → p ≡ q
+same_plan {S} {g} {h} p q x y z e = λ i. record { start_x = x i; start_y = y i; start_z = z i; blocks = e i; lie = is_prop→PathP (λ j. lie-type S g h (x j) (y j) (z j) (e j)) (λ j. lie_one _ _) p.lie q.lie i }

@@ -1,4 +1,5 @@
 mod Accepted
+mod Entries
 mod Following
 pub mod Editing
 mod Elements
@@ -7,3 +8,5 @@ mod Asking
 mod Overriding
 mod Junctions
 mod Running
+mod Alike
+mod Kept

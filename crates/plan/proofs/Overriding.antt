@@ -6,17 +6,16 @@ use Rattle.std.proofs.lemmas.List.{take-append-drop, drop-drop, length-drop, len
 use Rattle.std.proofs.lemmas.Bool.Decides.{nat_tests}
 use Rattle.refusals.specs.declared.Refusal.TheVariants.{Override}
 use Rattle.sequences.specs.Lists.{ranged}
-use Rattle.sequences.proofs.Rulings.{range_accepted}
+use Rattle.sequences.proofs.Rulings.{range_told}
 use Rattle.motion.specs.declared.blocks.Block.{Block}
 use Rattle.motion.specs.Figures.{at_percent}
 use Rattle.motion.specs.Laid.{Entry, laid, overridden, idle}
 use Rattle.motion.proofs.Laying.{laid_length, laid_override}
-use Rattle.plan.specs.declared.Plan.{Plan}
-use Rattle.plan.specs.Keeping.{Keeps}
-use Rattle.plan.specs.Models.{Model, no_range, percent_fits, override_told, with_entries, changed_in}
+use Rattle.plan.specs.Keeping.{Lie, entry_of, modelled}
+use Rattle.plan.specs.Models.{no_range, percent_fits, override_told, changed_in}
 use Rattle.plan.proofs.Accepted.{all_changed}
-use Rattle.plan.proofs.Asking.{ranged_kept}
-use Rattle.plan.proofs.Editing.{same_length, with_blocks, edited}
+use Rattle.plan.proofs.Editing.{as_many, ranged_answered, lie_along}
+use Rattle.plan.proofs.Entries.{entries_overridden}
 
 -- what is read may as well be the default
 get_or_again : {E : Type 0} (xs : List E) (n : ℕ) (d : E) → get_or xs n (get_or xs n d) ≡ get_or xs n d
@@ -85,15 +84,17 @@ module _ (start : List ℤ) (es : List Entry) (i percent : ℕ) where
       let up : i + (j - i) ≡ j = omega arith in
       subst (λ k. laid start (changed_in (λ e. overridden e percent) es i k) ≡ changed_in (λ b. at_percent b percent) (laid start es) i k) up (laid_by (j - i) (omega arith))
 
-module _ {S : Type 0} (list : S → List Block) (room : S → ℕ) (b : Model) (p : Plan S) (k : Keeps list room b p) (i j percent : ℕ) (fit : percent_fits percent ≡ true) where
-  pub override_answered : override_told b i j percent ≡ ranged no_range (list p.blocks) i j tt
-  override_answered = ap (λ t. cond t (ranged no_range b.entries i j tt) (Err Override)) fit ∙ sym (ranged_kept list room b p k i j tt)
+module _ (start : List ℤ) (xs : List Block) (i j percent : ℕ) (fit : percent_fits percent ≡ true) where
+  pub override_answered : (room : ℕ) → override_told (modelled start room xs) i j percent ≡ ranged no_range xs i j tt
+  override_answered room = ap (λ t. cond t (ranged no_range (map entry_of xs) i j tt) (Err Override)) fit ∙ ranged_answered xs i j tt
 
-  pub overridden_keeps : (xs : S) → room xs ≡ room p.blocks → ranged {X = Unit {0}} no_range (list p.blocks) i j tt ≡ Ok tt → list xs ≡ changed_in (λ x. at_percent x percent) (list p.blocks) i j → Keeps list room (with_entries b (changed_in (λ e. overridden e percent) b.entries i j)) (with_blocks p xs)
-  overridden_keeps xs room-kept told made =
-      let there = range_accepted no_range (list p.blocks) i j told in
+  pub overridden_there : (ys : List Block) → Lie start xs → ranged {X = Unit {0}} no_range xs i j tt ≡ Ok tt → ys ≡ changed_in (λ x. at_percent x percent) xs i j → (map entry_of ys ≡ changed_in (λ e. overridden e percent) (map entry_of xs) i j) × Lie start ys
+  overridden_there ys lie told made =
+      let es = map entry_of xs in
+      let there = range_told no_range xs i j tt tt told in
       let low : 10 ≤ percent = grind (arith, nat_tests) in
       let high : percent ≤ 200 = grind (arith, nat_tests) in
-      edited list room b p k xs room-kept _ (all_changed b.entries i k.entries (λ e. overridden e percent) (λ e v. record { move = v.move; least = low; most = high }) j)
-      (made ∙ ap (λ ys. changed_in (λ x. at_percent x percent) ys i j) k.holds
-      ∙ sym (laid_changed b.start b.entries i percent j there.0 (omega (arith, there.1, same_length list room b p k))))
+      let entries = ap (map entry_of) made ∙ entries_overridden xs i j percent in
+      let along : ys ≡ laid start (changed_in (λ e. overridden e percent) es i j) =
+      made ∙ ap (λ zs. changed_in (λ x. at_percent x percent) zs i j) lie.along ∙ sym (laid_changed start es i percent j there.0 (omega (arith, there.1, as_many xs))) in
+      (entries, lie_along start xs lie ys _ (all_changed es i lie.entries (λ e. overridden e percent) (λ e v. record { move = v.move; least = low; most = high }) j) along entries)

@@ -1,21 +1,31 @@
--- A run of a plan's calls, by the model.
-use Rattle.std.proofs.Common.{◌≡◌, ℕ, List, [], ◌∷◌}
-use Rattle.sequences.specs.Runs.{Ran}
-use Rattle.sequences.proofs.Runs.{ran_told}
-use Rattle.motion.specs.declared.blocks.Block.{Block}
-use Rattle.plan.specs.declared.Plan.{Plan}
+-- What the answers of a plan mean, of one call and of a run of calls.
+use Rattle.std.proofs.Common.{List, [], ◌∷◌, sym, refl, subst}
+use Rattle.sequences.specs.Runs.{Ran, Step}
 use Rattle.plan.specs.declared.calls.Call.{Call}
+use Rattle.plan.specs.declared.calls.Call.TheVariants.{Insert, Replace, Delete, Override, Start, Junction, Reach, Span}
 use Rattle.plan.specs.declared.calls.Answer.{Answer}
-use Rattle.plan.specs.Calls.{answer, after, answers, after_all, AllRight, Step}
-use Rattle.plan.specs.Keeping.{Keeps}
-use Rattle.plan.specs.Models.{Model}
+use Rattle.plan.specs.Calls.{answer, after, Right, AllRight, Unaltering}
+use Rattle.plan.specs.Keeping.{AllValid}
+use Rattle.plan.specs.Models.{Model, junction_told, reach_told, span_told}
+use Rattle.plan.proofs.Extents.{reach_right, span_right}
+use Rattle.plan.proofs.Junctions.{junction_right}
 
-module _ {S : Type 0} (list : S → List Block) (room : S → ℕ) where
-  pub plan_ran : (p : Plan S) (b : Model) (calls : List Call) (told : List Answer) (q : Plan S) → Keeps list room b p → Ran (Step list room) p calls told q → (told ≡ answers b calls) × Keeps list room (after_all b calls) q
-  plan_ran p b calls told q k ran = ran_told (Step list room) (λ x m. Keeps list room m x) after answer (λ x m call a z here made. made.model m here) p b calls told q k ran
+right_told : (b : Model) → AllValid b.entries → (call : Call) → Right b call (answer b call)
+right_told b valid (Insert i m) = refl
+right_told b valid (Replace i m) = refl
+right_told b valid (Delete i) = refl
+right_told b valid (Override i j percent) = refl
+right_told b valid (Start position) = refl
+right_told b valid (Junction j s) = (junction_told b j s, refl, junction_right b j s)
+right_told b valid (Reach i j) = (reach_told b i j, refl, reach_right b i j valid)
+right_told b valid (Span i j) = (span_told b i j, refl, span_right b i j)
 
-  pub ran_right : (p : Plan S) (b : Model) (calls : List Call) (told : List Answer) (q : Plan S) → Keeps list room b p → Ran (Step list room) p calls told q → AllRight b calls told
-  ran_right p b [] [] q k ran = tt
-  ran_right p b [] (a ∷ told) q k ran = ran
-  ran_right p b (call ∷ calls) [] q k ran = ran
-  ran_right p b (call ∷ calls) (a ∷ told) q k (z, made, ran) = (made.right b k, ran_right z (after b call) calls told q (made.model b k).1 ran)
+-- so of every call of a run over what has a model of accepted moves
+pub ran_right : {P : Type 0} (model_of : P → Model) → ((p : P) → AllValid (model_of p).entries) → (p : P) (calls : List Call) (told : List Answer) (q : P) → Ran (Step model_of answer after Unaltering) p calls told q → AllRight (model_of p) calls told
+ran_right model_of valid p [] [] q ran = tt
+ran_right model_of valid p [] (a ∷ told) q ran = ran
+ran_right model_of valid p (call ∷ calls) [] q ran = ran
+ran_right model_of valid p (call ∷ calls) (a ∷ told) q (z, made, ran) = (
+  subst (Right (model_of p) call) (sym made.value) (right_told (model_of p) (valid p) call),
+  subst (λ b. AllRight b calls told) made.leaves (ran_right model_of valid z calls told q ran),
+)

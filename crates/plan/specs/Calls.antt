@@ -2,15 +2,12 @@
 use Rattle.std.specs.Prelude.{◌≡◌, ℕ, List, [], ◌∷◌, Err, Option, Result}
 use Rattle.refusals.specs.declared.Refusal.{Refusal}
 use Rattle.sequences.specs.Runs.{left_by, answers_by}
-use Rattle.motion.specs.declared.blocks.Block.{Block}
 use Rattle.motion.specs.declared.extents.Extent.{Extent}
 use Rattle.motion.specs.Ranges.{check_position}
-use Rattle.plan.specs.declared.Plan.{Plan}
 use Rattle.plan.specs.declared.calls.Call.{Call}
 use Rattle.plan.specs.declared.calls.Call.TheVariants.{Insert, Replace, Delete, Override, Start, Junction, Reach, Span}
 use Rattle.plan.specs.declared.calls.Answer.{Answer}
 use Rattle.plan.specs.declared.calls.Answer.TheVariants.{Edit, Speed, Extent as Extends, Length}
-use Rattle.plan.specs.Keeping.{Keeps, Follows}
 use Rattle.plan.specs.Models.{Model, blocks_of, insert_told, insert_model, replace_told, replace_model, delete_told, delete_model, override_told, override_model, start_model, junction_told, reach_told, span_told}
 use Rattle.plan.specs.Promises.{JunctionRight, ReachRight, SpanRight}
 
@@ -68,10 +65,3 @@ Unaltering (Start position) a = (why : Refusal) × (a ≡ Edit (Err why))
 Unaltering (Junction j s) a = Unit {0}
 Unaltering (Reach i j) a = Unit {0}
 Unaltering (Span i j) a = Unit {0}
-
--- one call of a plan: it goes as the model does, its answer means what it must, and a call that alters nothing leaves
--- the plan as it was
-pub record Step {S : Type 0} (list : S → List Block) (room : S → ℕ) (before : Plan S) (call : Call) (told : Answer) (left : Plan S) : Type 0 where
-  pub model : Follows list room (λ b. answer b call) (λ b. after b call) before left told
-  pub right : (b : Model) → Keeps list room b before → Right b call told
-  pub same : Unaltering call told → left ≡ before

@@ -1,4 +1,7 @@
 pub mod Models
 pub mod Keeping
+pub mod Meaning
 pub mod Promises
 pub mod Calls
+pub mod Kept
+pub mod Texts

@@ -1,8 +1,9 @@
 // The calls of a plan as values, and runs of them.
-ghost use Rattle.std.specs.Prelude.{◌≡◌, true, false, is_ok, IfOk};
-ghost use Rattle.plan.specs.Calls.{answer, after, answers, after_all, Right, AllRight, Unaltering, Step};
-ghost use Rattle.plan.specs.Keeping.{Keeps, Follows};
-ghost use Rattle.plan.specs.Models.{Model};
+ghost use Rattle.std.specs.Prelude.{◌≡◌, true, false, Some, is_ok, IfOk};
+ghost use Rattle.plan.specs.Calls.{answer, after, answers, after_all, Right, AllRight, Unaltering};
+ghost use Rattle.plan.specs.Meaning.{model_of};
+ghost use Rattle.plan.specs.Texts.{call_text, answer_text};
+ghost use Rattle.sequences.specs.Runs.{Step};
 
 use crate::Plan;
 use crate::summaries::Blocks;
@@ -27,6 +28,8 @@ pub enum Call {
 }
 
 impl fmt::Display for Call {
+    ghost output = { λ call. Some (call_text call) };
+
     fn fmt<W: fmt::Write>(&self, f: &mut fmt::Formatter<W>) -> fmt::Result {
         match *self {
             Call::Insert(i, m) => write!(f, "insert at {i} to {m}"),
@@ -57,6 +60,8 @@ pub enum Answer {
 }
 
 impl fmt::Display for Answer {
+    ghost output = { λ answer. Some (answer_text answer) };
+
     fn fmt<W: fmt::Write>(&self, f: &mut fmt::Formatter<W>) -> fmt::Result {
         match self {
             Answer::Edit(Ok(())) => f.write_str("ok"),
@@ -74,8 +79,9 @@ impl fmt::Display for Answer {
 impl<S: Blocks> Plan<S> {
     // Makes one call.
     pub fn apply(&mut self, call: Call) -> Answer
-        ensures model { Follows S.Sequence.list S.Sequence.room (λ b. answer b call) (λ b. after b call) self.old self.new result }
-        ensures right { (b : Model) → Keeps S.Sequence.list S.Sequence.room b self.old → Right b call result }
+        ensures value { result ≡ answer (model_of S.Sequence.list S.Sequence.room self.old) call }
+        ensures after { model_of S.Sequence.list S.Sequence.room self.new ≡ after (model_of S.Sequence.list S.Sequence.room self.old) call }
+        ensures right { Right (model_of S.Sequence.list S.Sequence.room self.old) call result }
         ensures same { Unaltering call result → self.new ≡ self.old }
     {
         match call {
@@ -93,9 +99,9 @@ impl<S: Blocks> Plan<S> {
     // Makes the calls one after the other, and collects what they answer. Where there is no memory for the answers,
     // it makes none of them.
     pub fn run(&mut self, heap: Global, calls: &[Call]) -> Result<Vec<Answer>, AllocError>
-        ensures value { (b : Model) → Keeps S.Sequence.list S.Sequence.room b self.old → IfOk result (λ v. v.items ≡ answers b calls.now) }
-        ensures right { (b : Model) → Keeps S.Sequence.list S.Sequence.room b self.old → IfOk result (λ v. AllRight b calls.now v.items) }
-        ensures after { is_ok result ≡ true → (b : Model) → Keeps S.Sequence.list S.Sequence.room b self.old → Keeps S.Sequence.list S.Sequence.room (after_all b calls.now) self.new }
+        ensures value { IfOk result (λ v. v.items ≡ answers (model_of S.Sequence.list S.Sequence.room self.old) calls.now) }
+        ensures right { IfOk result (λ v. AllRight (model_of S.Sequence.list S.Sequence.room self.old) calls.now v.items) }
+        ensures after { is_ok result ≡ true → model_of S.Sequence.list S.Sequence.room self.new ≡ after_all (model_of S.Sequence.list S.Sequence.room self.old) calls.now }
         ensures refused { is_ok result ≡ false → self.new ≡ self.old }
     {
         make_all(heap, self, calls)
@@ -107,7 +113,7 @@ impl<S: Blocks> Answering for Plan<S> {
 
     type Answer = Answer;
 
-    ghost step = { λ p call told q. Step S.Sequence.list S.Sequence.room p call told q };
+    ghost step = { Step (model_of S.Sequence.list S.Sequence.room) answer after Unaltering };
 
     fn make(&mut self, call: Call) -> Answer {
         self.apply(call)

@@ -4,7 +4,8 @@ ghost use Rattle.motion.specs.Figures.{at_percent};
 ghost use Rattle.motion.specs.declared.blocks.Block.{Block};
 ghost use Rattle.motion.specs.Laid.{begun_again};
 ghost use Rattle.motion.specs.Ranges.{check_position, ValidMove};
-ghost use Rattle.plan.specs.Keeping.{Follows, start_of, begin_answer, block_answer};
+ghost use Rattle.plan.specs.Keeping.{begin_answer, block_answer};
+ghost use Rattle.plan.specs.Meaning.{start_of, model_of};
 ghost use Rattle.plan.specs.Models.{insert_told, insert_model, replace_told, replace_model, delete_told, delete_model, override_told, override_model, start_model, altered, changed_in, no_range};
 ghost use Rattle.sequences.specs.Lists.{ranged};
 ghost use Rattle.refusals.specs.declared.Refusal.{Refusal};
@@ -21,6 +22,9 @@ const FULL_PERCENT: u8 = 100;
 const LEAST_PERCENT: u8 = 10;
 
 const MOST_PERCENT: u8 = 200;
+
+// The functions above the methods are over the sequence: a method would have to show at each return what the type says. Each
+// edit says that the room stays, and each question that all does, as the calls of a sequence do.
 
 // Lets block `i`, if there is one, be what `change` makes of it.
 fn alter<S: Blocks, F: FnOnce(Block) -> Block>(blocks: &mut S, i: u16, change: F)
@@ -65,35 +69,55 @@ fn override_range<S: Blocks>(blocks: &mut S, i: u16, j: u16, percent: u8)
     }
 }
 
-impl<S: Blocks> Plan<S> {
-    // Where block `i` begins, or would begin.
-    fn begin_of(&mut self, i: u16) -> Result<[i32; 3], Refusal>
-        ensures value { result ≡ begin_answer (start_of self.old) (S.Sequence.list self.old.blocks) i }
-        ensures same { self.new ≡ self.old }
-    {
-        match i.checked_sub(1) {
-            None => Ok([self.start_x, self.start_y, self.start_z]),
-            Some(before) => self.blocks.element_at(before).map(Block::target),
-        }
+// Where block `i` begins, or would begin, behind a start.
+fn begin_of<S: Blocks>(start: [i32; 3], blocks: &mut S, i: u16) -> Result<[i32; 3], Refusal>
+    ensures value { result ≡ begin_answer start (S.Sequence.list blocks.old) i }
+    ensures same { blocks.new ≡ blocks.old }
+{
+    match i.checked_sub(1) {
+        None => Ok(start),
+        Some(before) => blocks.element_at(before).map(Block::target),
     }
+}
 
-    // The block that a move makes at place `i`, at full override.
-    fn block_at(&mut self, i: u16, m: Move) -> Result<Block, Refusal>
-        ensures value { result ≡ block_answer (start_of self.old) (S.Sequence.list self.old.blocks) i m }
-        ensures valid { (block : Block) → result ≡ Ok block → ValidMove m }
-        ensures same { self.new ≡ self.old }
+// The block that a move makes at place `i`, at full override.
+fn block_at<S: Blocks>(start: [i32; 3], blocks: &mut S, i: u16, m: Move) -> Result<Block, Refusal>
+    ensures value { result ≡ block_answer start (S.Sequence.list blocks.old) i m }
+    ensures valid { (block : Block) → result ≡ Ok block → ValidMove m }
+    ensures places { length m.target ≡ 3 }
+    ensures same { blocks.new ≡ blocks.old }
+{
+    m.check()?;
+    let begin = begin_of(start, blocks, i)?;
+    Ok(Block::new(begin, m, FULL_PERCENT))
+}
+
+// Refuses a range that there is not, by the plan's own refusal.
+fn check_range<S: Blocks>(blocks: &mut S, i: u16, j: u16) -> Result<(), Refusal>
+    ensures value { result ≡ ranged no_range (S.Sequence.list blocks.old) i j tt }
+    ensures same { blocks.new ≡ blocks.old }
+{
+    if i > j || j > blocks.count() {
+        return Err(NO_RANGE);
+    }
+    Ok(())
+}
+
+impl<S: Blocks> Plan<S> {
+    // Where the first block begins.
+    fn begin(&self) -> [i32; 3]
+        ensures { result ≡ start_of self.now }
     {
-        m.check()?;
-        let begin = self.begin_of(i)?;
-        Ok(Block::new(begin, m, FULL_PERCENT))
+        [self.start_x, self.start_y, self.start_z]
     }
 
     // Puts a move before block `i`, or last, at full override.
     pub fn insert(&mut self, i: u16, m: Move) -> Result<(), Refusal>
-        ensures model { Follows S.Sequence.list S.Sequence.room (λ b. insert_told b i m) (λ b. insert_model b i m) self.old self.new result }
+        ensures value { result ≡ insert_told (model_of S.Sequence.list S.Sequence.room self.old) i m }
+        ensures after { model_of S.Sequence.list S.Sequence.room self.new ≡ insert_model (model_of S.Sequence.list S.Sequence.room self.old) i m }
         ensures refused { (why : Refusal) → result ≡ Err why → self.new ≡ self.old }
     {
-        let block = self.block_at(i, m)?;
+        let block = block_at(self.begin(), &mut self.blocks, i, m)?;
         self.blocks.insert(i, block)?;
         begin_next(&mut self.blocks, i, m.target);
         Ok(())
@@ -102,10 +126,11 @@ impl<S: Blocks> Plan<S> {
     // Puts a move in the place of block `i`, at full override. One function for both would take the sequence's call as a
     // closure, which is longer than the call.
     pub fn replace(&mut self, i: u16, m: Move) -> Result<(), Refusal>
-        ensures model { Follows S.Sequence.list S.Sequence.room (λ b. replace_told b i m) (λ b. replace_model b i m) self.old self.new result }
+        ensures value { result ≡ replace_told (model_of S.Sequence.list S.Sequence.room self.old) i m }
+        ensures after { model_of S.Sequence.list S.Sequence.room self.new ≡ replace_model (model_of S.Sequence.list S.Sequence.room self.old) i m }
         ensures refused { (why : Refusal) → result ≡ Err why → self.new ≡ self.old }
     {
-        let block = self.block_at(i, m)?;
+        let block = block_at(self.begin(), &mut self.blocks, i, m)?;
         self.blocks.replace(i, block)?;
         begin_next(&mut self.blocks, i, m.target);
         Ok(())
@@ -113,10 +138,11 @@ impl<S: Blocks> Plan<S> {
 
     // Takes block `i` out.
     pub fn delete(&mut self, i: u16) -> Result<(), Refusal>
-        ensures model { Follows S.Sequence.list S.Sequence.room (λ b. delete_told b i) (λ b. delete_model b i) self.old self.new result }
+        ensures value { result ≡ delete_told (model_of S.Sequence.list S.Sequence.room self.old) i }
+        ensures after { model_of S.Sequence.list S.Sequence.room self.new ≡ delete_model (model_of S.Sequence.list S.Sequence.room self.old) i }
         ensures refused { (why : Refusal) → result ≡ Err why → self.new ≡ self.old }
     {
-        let begin = self.begin_of(i)?;
+        let begin = begin_of(self.begin(), &mut self.blocks, i)?;
         self.blocks.delete(i)?;
         begin_again(&mut self.blocks, i, begin);
         Ok(())
@@ -124,7 +150,8 @@ impl<S: Blocks> Plan<S> {
 
     // Moves the start.
     pub fn start(&mut self, position: [i32; 3]) -> Result<(), Refusal>
-        ensures model { Follows S.Sequence.list S.Sequence.room (λ _. check_position position) (λ b. start_model b position) self.old self.new result }
+        ensures value { result ≡ check_position position }
+        ensures after { model_of S.Sequence.list S.Sequence.room self.new ≡ start_model (model_of S.Sequence.list S.Sequence.room self.old) position }
         ensures refused { (why : Refusal) → result ≡ Err why → self.new ≡ self.old }
     {
         check_position(position)?;
@@ -133,26 +160,16 @@ impl<S: Blocks> Plan<S> {
         Ok(())
     }
 
-    // Refuses a range that there is not, by the plan's own refusal.
-    fn check_range(&mut self, i: u16, j: u16) -> Result<(), Refusal>
-        ensures value { result ≡ ranged no_range (S.Sequence.list self.old.blocks) i j tt }
-        ensures same { self.new ≡ self.old }
-    {
-        if i > j || j > self.blocks.count() {
-            return Err(NO_RANGE);
-        }
-        Ok(())
-    }
-
     // Sets the override of each block of a range; an empty range is accepted.
     pub fn set_override(&mut self, i: u16, j: u16, percent: u8) -> Result<(), Refusal>
-        ensures model { Follows S.Sequence.list S.Sequence.room (λ b. override_told b i j percent) (λ b. override_model b i j percent) self.old self.new result }
+        ensures value { result ≡ override_told (model_of S.Sequence.list S.Sequence.room self.old) i j percent }
+        ensures after { model_of S.Sequence.list S.Sequence.room self.new ≡ override_model (model_of S.Sequence.list S.Sequence.room self.old) i j percent }
         ensures refused { (why : Refusal) → result ≡ Err why → self.new ≡ self.old }
     {
         if !(LEAST_PERCENT..=MOST_PERCENT).contains(&percent) {
             return Err(Refusal::Override);
         }
-        self.check_range(i, j)?;
+        check_range(&mut self.blocks, i, j)?;
         override_range(&mut self.blocks, i, j, percent);
         Ok(())
     }

@@ -2,8 +2,8 @@
 #![tactic(auto)]
 
 ghost use Rattle.std.specs.Prelude.{◌≡◌, []};
-ghost use Rattle.plan.specs.Keeping.{Keeps};
-ghost use Rattle.plan.specs.Models.{opened};
+ghost use Rattle.plan.specs.Keeping.{Lie};
+ghost use Rattle.plan.specs.Models.{place, opened};
 
 use self::summaries::Blocks;
 use refusals::{Layer, Refusal};
@@ -13,26 +13,31 @@ pub mod depth;
 pub mod edits;
 pub mod questions;
 pub mod summaries;
+pub mod theorems;
 
 // A range or a junction that there is not.
 const NO_RANGE: Refusal = Refusal::NoPlace(Layer::Plan);
 
-// The start stays plain fields, as the places in a block are: a position is an array only where it is passed. The contracts
-// speak of every model that the plan keeps (specs/Keeping.antt).
+// The start stays plain fields, as the places in a block are: a position is an array only where it is passed. The blocks
+// lie from the start on, so start, room and blocks have one model, of which the contracts speak (specs/Meaning.antt). An
+// `impl Model` with that model is no plainer: what `lie` says would be hidden from callers, and a clause of every edit.
 #[derive(Drop)]
-pub struct Plan<S> {
+pub struct Plan<S: Blocks> {
     start_x: i32,
     start_y: i32,
     start_z: i32,
     blocks: S,
+    pub ghost lie: { Lie (place start_x start_y start_z) (S.Sequence.list blocks) },
 }
 
 impl<S: Blocks> Plan<S> {
+    ghost use Rattle.plan.specs.Meaning.{model_of};
+
     // A plan with no block, at the origin. The code that joins the two hands in an empty sequence, by a rule of the project.
     pub fn open(blocks: S) -> Plan<S>
         requires { S.Sequence.list blocks ≡ [] }
         ensures same { result.blocks ≡ blocks }
-        ensures model { Keeps S.Sequence.list S.Sequence.room (opened (S.Sequence.room blocks)) result }
+        ensures model { model_of S.Sequence.list S.Sequence.room result ≡ opened (S.Sequence.room blocks) }
     {
         Plan {
             start_x: 0,

@@ -6,7 +6,7 @@ ghost use Rattle.job.specs.Outputs.{job_output};
 ghost use Rattle.plan.specs.Models.{opened};
 
 use job::running::run_over;
-use motion::{Block, Move};
+use motion::Block;
 use plan::summaries::{PlanKind, Summary};
 use rows::{Row, idle};
 use std::alloc::{AllocError, Global};
@@ -29,7 +29,7 @@ fn output(heap: Global, rows: &mut [Row<Block, Summary>], job: &[u8]) -> Result<
 fn run_input(rt: &HostRuntime) -> anyhow::Result<()> {
     let mut job = Vec::new(rt.alloc());
     rt.stdin().take(MOST).read_to_end(&mut job)?;
-    let mut rows = [idle::<PlanKind>(Block::new([0, 0, 0], Move::IDLE, 100)); ROWS];
+    let mut rows = [idle::<PlanKind>(Block::idle()); ROWS];
     let text = output(rt.alloc(), &mut rows, &job)?;
     rt.stdout().write_all(&text)?;
     Ok(())

@@ -172,13 +172,11 @@ impl fmt::Display for Refusal {
         let number = self.number();
         let layer = self.layer();
         let reason = self.reason();
+        write!(f, "{number} {layer}: {reason}")?;
         match self.named() {
-            None => write!(f, "{number} {layer}: {reason}"),
-            Some(Named::Junction(junction)) => write!(
-                f,
-                "{number} {layer}: {reason}, junction {junction}"
-            ),
-            Some(Named::Offset(offset)) => write!(f, "{number} {layer}: {reason}, offset {offset}"),
+            None => Ok(()),
+            Some(Named::Junction(junction)) => write!(f, ", junction {junction}"),
+            Some(Named::Offset(offset)) => write!(f, ", offset {offset}"),
         }
     }
 }

@@ -5,7 +5,7 @@ ghost use Rattle.rows.specs.FreeList.{FreeList, among, FreeTaken};
 
 use crate::{MOST, Row, put, row_at};
 
-// A row to use, and the free list without it.
+// A row to use, and the free list without it. `Heads` would bring a top, of which the free list knows nothing.
 #[derive(Clone, Copy)]
 pub struct Fresh {
     pub place: u16,

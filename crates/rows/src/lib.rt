@@ -53,7 +53,8 @@ pub fn idle<K: Kind>(element: K::Element) -> Row<K::Element, K::Summary>
 }
 
 // The row that a side leads to. The caller's rows are written one by one, so no type can hold that a tree lies among
-// them, or that a place is one of theirs, and each function asks for it.
+// them, or that a place is one of theirs, and each function asks for it; a struct for those that only read would be made
+// anew at each call. A place as an index is widened by `as`, which reads better there than `usize::from`.
 fn row_of<E: Copy, S: Copy>(rows: &[Row<E, S>], side: Option<u16>) -> Option<Row<E, S>>
     requires { (t : Shape E S) × Rooted rows.now side t }
     ensures { (t : Shape E S) → Rooted rows.now side t → result ≡ top_of t }

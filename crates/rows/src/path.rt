@@ -37,7 +37,8 @@ pub fn insert<K: Kind>(
     }
 }
 
-// The first row of a tree, and what is left of the tree without it.
+// The first row of a tree, and what is left of the tree without it. No plainer as `remove` at 0: that and the making of one
+// tree of two would call each other.
 #[derive(Clone, Copy)]
 pub struct First<E> {
     pub place: u16,

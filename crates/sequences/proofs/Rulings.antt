@@ -94,9 +94,6 @@ insert_accepted xs room i e told =
     (cases_Bool (eqb (length xs) room)))
     (cases_Bool (ltb (length xs) i))
 
-pub insert_past : {E : Type 0} (xs : List E) (room i : ℕ) → length xs < i → insert_answer xs room i ≡ Err no_place
-insert_past xs room i past = ap (λ t. cond t (Err no_place) (cond (eqb (length xs) room) (Err Full) (Ok tt))) (lt-ltb (length xs) i past)
-
 pub place_accepted : {E : Type 0} (xs : List E) (i : ℕ) → place_answer xs i ≡ Ok tt → i < length xs
 place_accepted xs i told =
     ⊎_elim
@@ -104,19 +101,10 @@ place_accepted xs i told =
     (λ past. absurd (not_both (sym told ∙ place_none xs i past)))
     (cases_lt i (length xs))
 
--- a range that was accepted is there, and one that was refused is refused whatever would be told of it
+-- a range of which something is told is there, and one that is refused is refused whatever would be told of it
 module _ {E : Type 0} (why : Refusal) (xs : List E) (i j : ℕ) where
-  pub range_accepted : ranged {X = Unit {0}} why xs i j tt ≡ Ok tt → (i ≤ j) × (j ≤ length xs)
-  range_accepted told =
-      ⊎_elim
-      (λ back. absurd (not_both (sym told ∙ ap (λ t. cond t (Err why) (cond (ltb (length xs) j) (Err why) (Ok tt))) back)))
-      (λ order.
-      let told-on = sym (ap (λ t. cond t (Err why) (cond (ltb (length xs) j) (Err why) (Ok tt))) order) ∙ told in
-      ⊎_elim
-      (λ past. absurd (not_both (sym told-on ∙ ap (λ t. cond t (Err why) (Ok tt)) past)))
-      (λ within. (ltb-false j i order, ltb-false (length xs) j within))
-      (cases_Bool (ltb (length xs) j)))
-      (cases_Bool (ltb j i))
+  pub range_told : {X : Type 0} (x y : X) → ranged why xs i j x ≡ Ok y → (i ≤ j) × (j ≤ length xs) × (y ≡ x)
+  range_told x y told = grind (arith, nat_tests)
 
   pub range_nowhere : {X : Type 0} (x : X) → (i ≤ j → j ≤ length xs → ⊥) → ranged why xs i j x ≡ Err why
   range_nowhere x never =

@@ -49,10 +49,3 @@ Unaltering (RangeJoin i j) a = Unit {0}
 Unaltering (Insert i e) a = (why : Refusal) × (a ≡ Edit (Err why))
 Unaltering (Delete i) a = (why : Refusal) × (a ≡ Edit (Err why))
 Unaltering (Replace i e) a = (why : Refusal) × (a ≡ Edit (Err why))
-
--- one call of a sequence: its answer and the list that it leaves are those of the rules, and the room stays
-pub record Step {E S T : Type 0} (m : Rule E S) (room_of : T → ℕ) (list_of : T → List E) (before : T) (call : Call E) (told : Answer E S) (left : T) : Type 0 where
-  pub value : told ≡ answer m (room_of before) (list_of before) call
-  pub list : list_of left ≡ after (room_of before) (list_of before) call
-  pub room : room_of left ≡ room_of before
-  pub same : Unaltering call told → left ≡ before

@@ -1,7 +1,9 @@
 // The calls of a sequence as values, and runs of them over any sequence.
 ghost use Rattle.std.specs.Prelude.{◌≡◌, true, false, List, is_ok, IfOk};
 ghost use Rattle.refusals.specs.declared.Refusal.{Refusal};
-ghost use Rattle.sequences.specs.Calls.{answer, after, answers, after_all, Unaltering, Step};
+ghost use Rattle.sequences.specs.Calls.{answer, after, answers, after_all, Unaltering};
+ghost use Rattle.sequences.specs.Runs.{Listed};
+ghost use Rattle.sequences.specs.Texts.{call_text, answer_text};
 
 use crate::Sequence;
 use crate::answering::{Answering, make_all};
@@ -22,6 +24,8 @@ pub enum Call<E> {
 }
 
 impl<E: fmt::Display> fmt::Display for Call<E> {
+    ghost output = { call_text E.output };
+
     fn fmt<W: fmt::Write>(&self, f: &mut fmt::Formatter<W>) -> fmt::Result {
         match self {
             Call::Count => f.write_str("count"),
@@ -44,6 +48,8 @@ pub enum Answer<E, S> {
 }
 
 impl<E: fmt::Display, S: fmt::Display> fmt::Display for Answer<E, S> {
+    ghost output = { answer_text E.output S.output };
+
     fn fmt<W: fmt::Write>(&self, f: &mut fmt::Formatter<W>) -> fmt::Result {
         match self {
             Answer::Number(n) => write!(f, "{n}"),
@@ -83,7 +89,7 @@ impl<S: Sequence> Answering for S {
 
     type Answer = Answer<S::Element, S::Summary>;
 
-    ghost step = { λ s call told t. Step S.Kind.Kind.rule S.Sequence.room S.Sequence.list s call told t };
+    ghost step = { Listed S.Sequence.room S.Sequence.list (answer S.Kind.Kind.rule) after Unaltering };
 
     fn make(&mut self, call: Call<S::Element>) -> Answer<S::Element, S::Summary> {
         apply(self, call)

@@ -44,7 +44,8 @@ impl<'a, K: Kind> FlatList<'a, K> {
     }
 }
 
-// Each implementation finds what the rules refuse by a count and a room of its own.
+// Each implementation finds what the rules refuse by a count and a room of its own: one comparison each, so a function for them
+// would be no shorter at a call. A place as an index is widened by `as`, which reads better there than `usize::from`.
 impl<'a, K: Kind> Sequence for FlatList<'a, K> {
     type Element = K::Element;
 

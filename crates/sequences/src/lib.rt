@@ -19,7 +19,7 @@ pub const NO_PLACE: Refusal = Refusal::NoPlace(Layer::Sequence);
 // A sequence means its `list` and its `room`, the number of elements that it can hold, which never alters. Whatever it
 // stores besides, as summaries, its own type keeps right.
 // No call asks anything of its caller. By a rule of the project questions take `&mut self`, and each call says for itself
-// what stays; a range is two places, as the calls are named, for a `Range` is no `Copy` and a call as a value is one.
+// what stays; an edit says so of the room, and a pair of room and list in each clause would be no plainer. A range is two places, as the calls are named, for a `Range` is no `Copy` and a call as a value is one.
 pub trait Sequence {
     type Element: Copy;
 

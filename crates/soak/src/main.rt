@@ -6,7 +6,7 @@ ghost use Rattle.std.specs.Prelude.{◌≡◌, []};
 mod random;
 
 use kinds::Thinnest;
-use motion::{Block, Move};
+use motion::Block;
 use plan::Plan;
 use plan::calls::{Answer, Call};
 use plan::summaries::{Blocks, PlanKind};
@@ -60,7 +60,7 @@ fn soak_readings(rt: &HostRuntime) -> anyhow::Result<()> {
 fn soak_plans(rt: &HostRuntime) -> anyhow::Result<()> {
     let mut random = Random::new(2);
     let calls: Vec<Call> = (0..CALLS).map(|_| random.plan_call()).collect(rt.alloc())?;
-    let block = Block::new([0, 0, 0], Move::IDLE, 100);
+    let block = Block::idle();
     let mut slots = [block; ROOM];
     let flat: FlatList<PlanKind> = FlatList::open(&mut slots);
     let one = run_plan(rt.alloc(), flat, calls.as_slice())?;
@@ -79,6 +79,7 @@ fn soak_plans(rt: &HostRuntime) -> anyhow::Result<()> {
     Ok(())
 }
 
+// Over an empty sequence, as the opening of a plan asks.
 fn run_plan<S: Blocks + Drop>(
     heap: Global,
     blocks: S,

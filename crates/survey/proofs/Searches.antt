@@ -1,6 +1,9 @@
 -- A binary search for the first of the least readings, by the least readings of ranges.
-use Rattle.std.proofs.Common.{◌≡◌, ℕ, zero, suc, ◌+◌, ◌-◌, ◌<◌, ◌≤◌, min, List, [], ◌∷◌, length, get_or, sym, ap, ◌∙◌, subst, ⊎_elim, arith}
+use Rattle.std.proofs.Common.{◌≡◌, ℕ, zero, suc, ◌+◌, ◌-◌, ◌<◌, ◌≤◌, min, Bool, false, eqb, List, [], ◌∷◌, length, get_or, Ok, Result, sym, ap, ◌∙◌, subst, ⊎_elim, arith}
 use Rattle.std.specs.List.{between}
+use Rattle.std.specs.Result.{result_eq}
+use Rattle.std.proofs.lemmas.Bool.Decides.{nat_tests}
+use Rattle.refusals.specs.declared.Refusal.{Refusal}
 use Rattle.std.proofs.lemmas.Bool.{cases_lt}
 use Rattle.std.proofs.lemmas.List.Edits.{length-between, get_or-between}
 use Rattle.kinds.specs.Models.{thinnest, thinnest_laws}
@@ -8,6 +11,12 @@ use Rattle.kinds.specs.Rules.{summary}
 use Rattle.kinds.proofs.Summaries.{summary_append, summary_cons, summary_one}
 use Rattle.sequences.proofs.Rulings.{between_split, between_one}
 use Rattle.survey.specs.Readings.{Sound, IsThinnest, spot_at}
+
+-- an answer that differs from a number does not tell it
+pub told_other : (f : Refusal → Refusal → Bool) (told : Result ℕ Refusal) (n : ℕ) → result_eq eqb f told (Ok n) ≡ false → told ≡ Ok n → ⊥
+told_other f told n differs is =
+    let other : eqb n n ≡ false = ap (λ z. result_eq eqb f z (Ok n)) (sym is) ∙ differs in
+    grind (arith, nat_tests)
 
 -- the least is at most each reading
 least_below : (ys : List ℕ) (k : ℕ) → k < length ys → summary thinnest ys ≤ get_or ys k 0
@@ -42,9 +51,6 @@ module _ (xs : List ℕ) (sound : Sound xs) where
     pub before : (k : ℕ) → i ≤ k → k < low → reading < get_or xs k 0
 
   module _ (i j reading low high : ℕ) (inside : j ≤ length xs) (s : Searching i j reading low high) where
-    pub go_left : (middle : ℕ) → low < middle → middle ≤ high → least low middle ≡ reading → Searching i j reading low middle
-    go_left middle lo hi e = record { from = s.from; order = lo; within = omega (arith, s.within); holds = e; before = s.before }
-
     pub go_right : (middle : ℕ) → low ≤ middle → middle < high → (least low middle ≡ reading → ⊥) → Searching i j reading middle high
     go_right middle lo hi ne =
         let parts : reading ≡ min (least low middle) (least middle high) = sym s.holds ∙ least_split low middle high lo (omega arith) in

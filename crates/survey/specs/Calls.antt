@@ -31,10 +31,3 @@ abbrev pub Unaltering : Call → Answer → Type 0
 Unaltering (Note i reading) a = (why : Refusal) × (a ≡ Edit (Err why))
 Unaltering (Strike i) a = (why : Refusal) × (a ≡ Edit (Err why))
 Unaltering (Thinnest i j) a = Unit {0}
-
--- one call of a survey: its answer and the readings that it leaves are those of the rules, and the room stays
-pub record Step {S : Type 0} (room_of : S → ℕ) (list_of : S → List ℕ) (before : S) (call : Call) (told : Answer) (left : S) : Type 0 where
-  pub value : told ≡ answer (room_of before) (list_of before) call
-  pub list : list_of left ≡ after (room_of before) (list_of before) call
-  pub room : room_of left ≡ room_of before
-  pub same : Unaltering call told → left ≡ before

@@ -1,6 +1,8 @@
 // The calls of a survey as values, and runs of them.
-ghost use Rattle.std.specs.Prelude.{◌≡◌, true, false, is_ok, IfOk};
-ghost use Rattle.survey.specs.Calls.{answer, after, answers, after_all, Unaltering, Step};
+ghost use Rattle.std.specs.Prelude.{◌≡◌, true, false, Some, is_ok, IfOk};
+ghost use Rattle.sequences.specs.Runs.{Listed};
+ghost use Rattle.survey.specs.Calls.{answer, after, answers, after_all, Unaltering};
+ghost use Rattle.survey.specs.Texts.{call_text, answer_text};
 
 use crate::{Readings, Spot, Survey};
 use refusals::Refusal;
@@ -17,6 +19,8 @@ pub enum Call {
 }
 
 impl fmt::Display for Call {
+    ghost output = { λ call. Some (call_text call) };
+
     fn fmt<W: fmt::Write>(&self, f: &mut fmt::Formatter<W>) -> fmt::Result {
         match self {
             Call::Note(i, reading) => write!(f, "note {reading} at {i}"),
@@ -33,6 +37,8 @@ pub enum Answer {
 }
 
 impl fmt::Display for Answer {
+    ghost output = { λ answer. Some (answer_text answer) };
+
     fn fmt<W: fmt::Write>(&self, f: &mut fmt::Formatter<W>) -> fmt::Result {
         match self {
             Answer::Edit(Ok(())) => f.write_str("ok"),
@@ -78,7 +84,7 @@ impl<S: Readings> Answering for Survey<S> {
 
     type Answer = Answer;
 
-    ghost step = { λ p call told q. Step (λ s. S.Sequence.room s.readings) (λ s. S.Sequence.list s.readings) p call told q };
+    ghost step = { Listed (λ s. S.Sequence.room s.readings) (λ s. S.Sequence.list s.readings) answer after Unaltering };
 
     fn make(&mut self, call: Call) -> Answer {
         self.apply(call)

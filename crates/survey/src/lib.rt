@@ -5,9 +5,9 @@ ghost use Rattle.std.specs.Prelude.{◌≡◌, ℕ, ◌<◌, ◌≤◌, [], leng
 ghost use Rattle.kinds.specs.Models.{thinnest as thinnest-rule};
 ghost use Rattle.kinds.specs.Rules.{summary};
 ghost use Rattle.refusals.specs.declared.Refusal.{Refusal};
-ghost use Rattle.sequences.specs.Lists.{place_answer, delete_list};
+ghost use Rattle.sequences.specs.Lists.{place_answer, delete_list, ranged};
 ghost use Rattle.std.specs.List.{between};
-ghost use Rattle.survey.specs.Readings.{Sound, IsThinnest, note_answer, note_list, spot_at, thinnest_answer};
+ghost use Rattle.survey.specs.Readings.{Sound, IsThinnest, no_range, note_answer, note_list, spot_at, thinnest_answer};
 
 pub mod calls;
 
@@ -17,6 +17,9 @@ use sequences::Sequence;
 
 // The greatest reading that is taken, in tenths of a millimetre.
 const THICKEST: u16 = 2000;
+
+// A range that there is not.
+const NO_RANGE: Refusal = Refusal::NoPlace(Layer::Survey);
 
 // A reading and the place where it stands.
 #[derive(Clone, Copy, PartialEq, Eq, Debug)]
@@ -30,7 +33,8 @@ pub trait Readings: Sequence<Element = u16, Summary = u16, Kind = Thinnest> {}
 
 impl<S: Sequence<Element = u16, Summary = u16, Kind = Thinnest>> Readings for S {}
 
-// No reading of a survey passes the greatest.
+// No reading of a survey passes the greatest. Its edits say that the room stays, as those of a sequence do: a pair of room and
+// readings in each clause would be no plainer.
 #[derive(Drop)]
 pub struct Survey<S: Readings> {
     readings: S,
@@ -69,17 +73,12 @@ impl<S: Readings> Survey<S> {
         self.readings.delete(i)
     }
 
-    // The least reading from `i` up to but without `j`.
-    fn least(&mut self, i: u16, j: u16) -> u16
-        requires order { i ≤ j }
-        requires within { j ≤ length (S.Sequence.list self.old.readings) }
-        ensures value { result ≡ summary thinnest-rule (between i j (S.Sequence.list self.old.readings)) }
+    // The least reading from `i` up to but without `j`. The sequence knows which ranges there are.
+    fn least(&mut self, i: u16, j: u16) -> Result<u16, Refusal>
+        ensures value { result ≡ ranged no_range (S.Sequence.list self.old.readings) i j (summary thinnest-rule (between i j (S.Sequence.list self.old.readings))) }
         ensures same { self.new ≡ self.old }
     {
-        let Ok(reading) = self.readings.range_join(i, j) else {
-            unreachable()
-        };
-        reading
+        self.readings.range_join(i, j).map_err(|_| NO_RANGE)
     }
 
     // The first place of the range at which its least reading stands. The search is a loop of its own: a question takes
@@ -94,7 +93,7 @@ impl<S: Readings> Survey<S> {
         let mut high = j;
         while high - low > 1 {
             let middle = low + (high - low) / 2;
-            if self.least(low, middle) == reading {
+            if self.least(low, middle) == Ok(reading) {
                 high = middle;
             } else {
                 low = middle;
@@ -109,14 +108,10 @@ impl<S: Readings> Survey<S> {
         ensures spot { (spot : Spot) → result ≡ Ok (Some spot) → IsThinnest (S.Sequence.list self.old.readings) i j spot }
         ensures same { self.new ≡ self.old }
     {
-        let count = self.readings.count();
-        if i > j || j > count {
-            return Err(Refusal::NoPlace(Layer::Survey));
-        }
+        let reading = self.least(i, j)?;
         if i == j {
             return Ok(None);
         }
-        let reading = self.least(i, j);
         let place = self.first_place(i, j, reading);
         Ok(Some(Spot { reading, place }))
     }

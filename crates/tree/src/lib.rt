@@ -76,7 +76,8 @@ impl<'a, K: Kind> Tree<'a, K> {
     }
 }
 
-// Each implementation finds what the rules refuse by a count and a room of its own.
+// Each implementation finds what the rules refuse by a count and a room of its own: one comparison each, so a function for them
+// would be no shorter at a call.
 impl<'a, K: Kind> Sequence for Tree<'a, K> {
     type Element = K::Element;
 

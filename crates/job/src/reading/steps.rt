@@ -1,8 +1,7 @@
 // Runs a job field by field, with a line for each.
-ghost use Rattle.std.specs.Prelude.{◌≡◌, ◌≤◌, length};
+ghost use Rattle.std.specs.Prelude.{◌≡◌, length};
 ghost use Rattle.job.specs.Steps.{step_refusal, refusal_of, step_place, Stepped, Unmoved, Bounded};
-ghost use Rattle.plan.specs.Keeping.{Keeps};
-ghost use Rattle.plan.specs.Models.{Model};
+ghost use Rattle.plan.specs.Meaning.{model_of};
 
 use super::Reader;
 use crate::fields::{Field, offset};
@@ -32,7 +31,7 @@ impl<'a> Reader<'a> {
         ensures place { self.new.place ≡ step_place (length line.old) self.old.job.now self.old.place }
         ensures refusal { refusal_of result ≡ step_refusal (length line.old) self.old.job.now self.old.place }
         ensures unmoved { Unmoved result (self.new ≡ self.old) (plan.new ≡ plan.old) (line.new ≡ line.old) }
-        ensures model { (b : Model) → Keeps S.Sequence.list S.Sequence.room b plan.old → Stepped S.Sequence.list S.Sequence.room b self.old.job.now self.old.place result line.old line.new plan.new }
+        ensures model { Stepped (model_of S.Sequence.list S.Sequence.room plan.old) self.old.job.now self.old.place result line.old line.new (model_of S.Sequence.list S.Sequence.room plan.new) }
         ensures bound { Bounded result self.old.place self.new.place }
     {
         if line.len() < LINE_ROOM {

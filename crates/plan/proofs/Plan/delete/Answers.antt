@@ -1,37 +1,42 @@
-use Rattle.std.proofs.Common.{sym, ap, ◌∙◌, subst}
+use Rattle.std.proofs.Common.{◌≡◌, map, Ok, sym, refl, ap, ◌∙◌, subst}
+use Rattle.std.specs.List.{remove}
 use Rattle.motion.specs.Laid.{begun_again}
-use Rattle.plan.specs.Keeping.{Keeps}
-use Rattle.plan.proofs.Editing.{with_blocks, begin_refused, begin_made, place_answered, deleted_keeps}
-use Rattle.plan.proofs.Following.{refused, accepted}
+use Rattle.sequences.specs.Lists.{place_answer, delete_list}
+use Rattle.plan.specs.Keeping.{Lie, entry_of}
+use Rattle.plan.specs.Meaning.{start_of, model_of}
+use Rattle.plan.specs.Models.{delete_told}
+use Rattle.plan.proofs.Editing.{place_answered, begin_made, deleted_there, edit_made}
+use Rattle.plan.proofs.Following.{same_plan}
+use Rattle.plan.proofs.Plan.delete.Given.{Over}
+use Rattle.plan.proofs.Plan.delete.Goals.{After-begin_again}
 use Rattle.plan.proofs.Plan.delete.Goals as goal
 
-pub returns-in_err-begin-clause-model : goal.returns-in_err-begin-clause-model
-returns-in_err-begin-clause-model g c = λ b k.
-    let s = g.S.Sequence in
-    let why = c.in_err-begin.field-0.0 in
-    refused s.list s.room b _ _ _ _ why c.from_residual.ensures.1
-    (begin_refused s.list s.room b c.args.self.now k c.args.i why (sym c.begin_of.ensures.value ∙ c.in_err-begin.was))
-    (subst (Keeps s.list s.room b) (sym c.begin_of.ensures.same) k)
+pub returns-in_err-begin-clause-refused : goal.returns-in_err-begin-clause-refused
+returns-in_err-begin-clause-refused g c = λ why no. same_plan _ _ refl refl refl c.begin_of.ensures.same
 
-pub returns-in_err-delete-clause-model : goal.returns-in_err-delete-clause-model
-returns-in_err-delete-clause-model g c = λ b k.
-    let s = g.S.Sequence in
-    let here = c.begin_of.new.self in
-    let there = subst (Keeps s.list s.room b) (sym c.begin_of.ensures.same) k in
-    let why = c.in_err-delete.field-0.0 in
-    refused s.list s.room b _ _ _ _ why c.from_residual-in_err-delete.ensures.1
-    (place_answered s.list s.room b here there c.args.i ∙ sym c.delete.ensures.value ∙ c.in_err-delete.was)
-    (subst (λ xs. Keeps s.list s.room b (with_blocks here xs)) (sym (c.delete.ensures.refused why c.in_err-delete.was)) there)
+pub returns-in_err-delete-clause-refused : goal.returns-in_err-delete-clause-refused
+returns-in_err-delete-clause-refused g c = λ why no. same_plan _ _ refl refl refl (c.delete.ensures.refused _ c.in_err-delete.was ∙ c.begin_of.ensures.same)
 
-pub returns-clause-model : goal.returns-clause-model
-returns-clause-model g c = λ b k.
+told : (g : Over) (c : After-begin_again g) → place_answer (g.S.Sequence.list c.args.self.now.blocks) c.args.i ≡ Ok tt
+told g c = subst (λ z. place_answer (g.S.Sequence.list z) c.args.i ≡ Ok tt) c.begin_of.ensures.same (sym c.delete.ensures.value ∙ c.in_ok-delete.was)
+
+taken_out : (g : Over) (c : After-begin_again g) → (map entry_of (g.S.Sequence.list c.begin_again.new.blocks) ≡ remove (map entry_of (g.S.Sequence.list c.args.self.now.blocks)) c.args.i) × Lie (start_of c.args.self.now) (g.S.Sequence.list c.begin_again.new.blocks)
+taken_out g c =
     let s = g.S.Sequence in
+    let p = c.args.self.now in
+    let xs = s.list p.blocks in
     let i = c.args.i in
     let begin = c.in_ok-begin.begin in
-    let here = c.begin_of.new.self in
-    let there = subst (Keeps s.list s.room b) (sym c.begin_of.ensures.same) k in
-    let took = sym c.delete.ensures.value ∙ c.in_ok-delete.was in
-    accepted s.list s.room b _ _ _ tt (place_answered s.list s.room b here there i ∙ took)
-    (deleted_keeps s.list s.room b here there c.begin_again.new.blocks (c.begin_again.ensures.room ∙ c.delete.ensures.room) i begin
-    (begin_made s.list s.room b c.args.self.now k i begin (sym c.begin_of.ensures.value ∙ c.in_ok-begin.was)) took
-    (c.begin_again.ensures.after ∙ ap (λ ys. begun_again ys i begin) c.delete.ensures.after))
+    deleted_there (start_of p) xs p.lie i (s.list c.begin_again.new.blocks) begin (begin_made xs i c.begin.result (start_of p) c.begin.ensures begin (sym c.begin_of.ensures.value ∙ c.in_ok-begin.was)) (told g c)
+    (c.begin_again.ensures.after ∙ ap (λ ys. begun_again ys i begin) (c.delete.ensures.after ∙ ap (λ z. delete_list (s.list z) i) c.begin_of.ensures.same))
+
+pub invariant_of-self-2 : goal.invariant_of-self-2
+invariant_of-self-2 g c = record { lie = (taken_out g c).1 }
+
+pub returns-clause-after : goal.returns-clause-after
+returns-clause-after g c =
+    let s = g.S.Sequence in
+    let p = c.args.self.now in
+    let so = (goal.at.returns-clause-after g c).After-begin_again in
+    edit_made (delete_told (model_of s.list s.room p) c.args.i) (start_of p) (s.room p.blocks) _ _ _ _ (place_answered (s.list p.blocks) c.args.i ∙ told g so)
+    (c.begin_again.ensures.room ∙ c.delete.ensures.room ∙ ap s.room c.begin_of.ensures.same) (taken_out g so).0

@@ -1,8 +1,8 @@
-use Rattle.std.proofs.Common.{ltb, sym, subst, of_calls}
+use Rattle.std.proofs.Common.{ltb, refl, of_calls}
 use Rattle.std.specs.Bool.{then_some}
-use Rattle.plan.specs.Keeping.{Keeps}
-use Rattle.plan.specs.Models.{Model}
+use Rattle.plan.specs.Meaning.{start_of}
 use Rattle.plan.proofs.Asking.{made_of, reach_tells}
+use Rattle.plan.proofs.Following.{same_plan}
 use Rattle.plan.proofs.Plan.reach.Goals as goal
 
 pub returns : goal.returns
@@ -13,9 +13,9 @@ returns g c =
     let j = c.args.j in
     let asked = c.sum_up-told in
     let told = made_of (s.list p.blocks) i j _ (λ z. then_some (ltb i j) z.second.first) asked.result c.map.result _ asked.ensures.value c.map.ensures.cases (search of_calls) in
-    let tells = λ (b : Model) (k : Keeps s.list s.room b p). reach_tells s.list s.room b p k i j c.map.result told in
+    let tells = reach_tells (start_of p) (s.room p.blocks) (s.list p.blocks) p.lie i j c.map.result told in
     record {
-      model = λ b k. ((tells b k).0, subst (Keeps s.list s.room b) (sym asked.ensures.same) k);
-      right = λ b k. (tells b k).1;
-      same = asked.ensures.same;
+      value = tells.0;
+      right = tells.1;
+      same = same_plan _ _ refl refl refl asked.ensures.same;
     }

@@ -1,6 +1,8 @@
 use Rattle.std.proofs.lemmas.Result.{IfOk-weaker}
-use Rattle.sequences.proofs.Runs.{where_made}
-use Rattle.plan.proofs.Running.{plan_ran, ran_right}
+use Rattle.sequences.proofs.Runs.{ran_told, where_made}
+use Rattle.plan.specs.Calls.{answer, after, Unaltering}
+use Rattle.plan.specs.Meaning.{model_of}
+use Rattle.plan.proofs.Running.{ran_right}
 use Rattle.plan.proofs.Plan.run.Goals as goal
 
 pub returns : goal.returns
@@ -9,9 +11,10 @@ returns g c =
     let done = c.make_all.ensures in
     let p = c.args.self.now in
     let calls = c.args.calls.now in
+    let made = ran_told (model_of s.list s.room) answer after Unaltering p calls in
     record {
-      value = λ b k. IfOk-weaker c.make_all.result _ _ (λ v ran. (plan_ran s.list s.room p b calls _ _ k ran).0) done.ran;
-      right = λ b k. IfOk-weaker c.make_all.result _ _ (λ v ran. ran_right s.list s.room p b calls _ _ k ran) done.ran;
-      after = λ ok b k. where_made c.make_all.result done.ran (λ v ran. (plan_ran s.list s.room p b calls _ _ k ran).1) ok;
+      value = IfOk-weaker c.make_all.result _ _ (λ v ran. (made _ _ ran).0) done.ran;
+      right = IfOk-weaker c.make_all.result _ _ (λ v ran. ran_right (model_of s.list s.room) (λ q. q.lie.entries) p calls _ _ ran) done.ran;
+      after = where_made c.make_all.result done.ran (λ v ran. (made _ _ ran).1);
       refused = done.refused;
     }

@@ -1,19 +1,10 @@
-use Rattle.std.proofs.Common.{◌≡◌, sym, refl, ap, ◌∙◌, arith, of_calls}
+use Rattle.std.proofs.Common.{ap, ◌∙◌, arith, of_calls}
 use Rattle.motion.specs.Figures.{at_percent}
 use Rattle.motion.specs.declared.blocks.Block.{Block}
 use Rattle.motion.specs.Laid.{idle}
-use Rattle.plan.specs.Models.{altered, changed_in}
-use Rattle.plan.proofs.Overriding.{changed_none, changed_more}
+use Rattle.plan.specs.Models.{altered}
+use Rattle.plan.proofs.Overriding.{changed_more}
 use Rattle.plan.proofs.edits.override_range.Goals as goal
-
-pub loop-k-init : goal.loop-k-init
-loop-k-init g c =
-    let change = λ (block : Block). at_percent block c.args.percent in
-    record {
-      far = c.requires.order;
-      after = sym (changed_none change (g.S.Sequence.list c.args.blocks.now) c.args.i);
-      room = refl;
-    }
 
 pub loop-k-preserved : goal.loop-k-preserved
 loop-k-preserved g c =
@@ -27,8 +18,3 @@ loop-k-preserved g c =
           ∙ changed_more change xs c.args.i k idle (omega arith) (omega arith);
       room = c.alter.ensures.room ∙ inv.room;
     }
-
-pub returns-clause-after : goal.returns-clause-after
-returns-clause-after g c =
-    let end : c.loop-k.k ≡ c.args.j = omega arith in
-    c.loop-k.invariant.after ∙ ap (changed_in (λ block. at_percent block c.args.percent) (g.S.Sequence.list c.args.blocks.now) c.args.i) end

@@ -5,20 +5,15 @@ use Rattle.motion.specs.ByParts.{run_down_to}
 use Rattle.motion.specs.Profiles.{Starts, first_blocked}
 use Rattle.motion.proofs.Blocking.{first_blocked_first}
 use Rattle.motion.proofs.Parting.{blocked_by_parts}
-use Rattle.plan.proofs.Plan.first_blocked.Goals as goal
+use Rattle.plan.proofs.questions.first_blocked.Goals as goal
 
 past : (xs : List Block) (s k : ℕ) → (Starts xs (length xs) s → ⊥) → k ≤ length xs → run_down_to xs k < s → first_blocked xs s ≤ k
 past xs s k none within high =
     ⊎_elim (λ before. absurd (let low = (blocked_by_parts xs s k none within).0 before in omega arith)) (λ le. le) (cases_lt k (first_blocked xs s))
 
-pub greatest_start-requires : goal.greatest_start-requires
-greatest_start-requires g c =
-    let inv = c.loop-low.invariant in
-    omega (arith, ap (λ z. length (g.S.Sequence.list z.blocks)) inv.same)
-
 pub loop-low-init : goal.loop-low-init
 loop-low-init g c =
-    let xs = g.S.Sequence.list c.args.self.now.blocks in
+    let xs = g.S.Sequence.list c.args.blocks.now in
     record {
       same = refl;
       order = omega arith;
@@ -29,9 +24,9 @@ loop-low-init g c =
 pub loop-low-preserved : goal.loop-low-preserved
 loop-low-preserved g c =
     let inv = c.loop-low.invariant in
-    let xs = g.S.Sequence.list c.args.self.now.blocks in
+    let xs = g.S.Sequence.list c.args.blocks.now in
     let k = c.loop-low.low + (c.loop-low.high - c.loop-low.low) / 2 in
-    let known : c.greatest_start.result ≡ run_down_to xs k = c.greatest_start.ensures.value ∙ ap (λ z. run_down_to (g.S.Sequence.list z.blocks) k) inv.same in
+    let known : c.greatest_start.result ≡ run_down_to xs k = c.greatest_start.ensures.value ∙ ap (λ z. run_down_to (g.S.Sequence.list z) k) inv.same in
     record {
       same = c.greatest_start.ensures.same ∙ inv.same;
       order = omega arith;
@@ -42,15 +37,12 @@ loop-low-preserved g c =
 pub loop-low-preserved-then-s-greatest_start : goal.loop-low-preserved-then-s-greatest_start
 loop-low-preserved-then-s-greatest_start g c =
     let inv = c.loop-low.invariant in
-    let xs = g.S.Sequence.list c.args.self.now.blocks in
+    let xs = g.S.Sequence.list c.args.blocks.now in
     let k = c.loop-low.low + (c.loop-low.high - c.loop-low.low) / 2 in
-    let known : c.greatest_start.result ≡ run_down_to xs k = c.greatest_start.ensures.value ∙ ap (λ z. run_down_to (g.S.Sequence.list z.blocks) k) inv.same in
+    let known : c.greatest_start.result ≡ run_down_to xs k = c.greatest_start.ensures.value ∙ ap (λ z. run_down_to (g.S.Sequence.list z) k) inv.same in
     record {
       same = c.greatest_start.ensures.same ∙ inv.same;
       order = omega arith;
       within = inv.within;
       between = λ none. let before = (blocked_by_parts xs c.args.s k none (omega arith)).1 (omega arith) in (omega arith, (inv.between none).1);
     }
-
-pub returns-clause-value : goal.returns-clause-value
-returns-clause-value g c = λ none. let between = c.loop-low.invariant.between none in omega (arith, between.0, between.1)
