@@ -43,6 +43,7 @@ pub(crate) fn run_over<S: Blocks + Drop>(blocks: S, job: &[u8], text: &mut [u8])
 {
     let mut plan = Plan::open(blocks);
     match run_into(&mut plan, job, text) {
+        // Widened by `as`, which reads better than a conversion that could fail.
         Some(written) => written as u64,
         None => SHORT,
     }

@@ -76,7 +76,7 @@ pub extern "C" fn jigsorrel_depth_after(seed: u64, size: u16, mix: u8, count: u3
     depth_over(blocks, Workload::new(seed, size, mix, count))
 }
 
-// The same over a flat list of 256 slots. C takes no type parameter, so each size has a function and a name.
+// The same over a flat list of 256 slots. C takes no type parameter, so each sequence has a function and a name.
 #[unsafe(no_mangle)]
 pub extern "C" fn jigsorrel_calls_on_list(seed: u64, size: u16, mix: u8, count: u32) -> u64
     ensures { result ≡ digest_of (answers (opened 256) (calls_of seed size (mix_of mix) count)) }

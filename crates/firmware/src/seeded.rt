@@ -5,7 +5,7 @@ ghost use Rattle.firmware.specs.Seeded.{drawn, drawn_below, drawn_place, mix_of,
 use motion::Move;
 use plan::calls::Call;
 
-// What is done once a plan is filled. C names it by a byte, and each draws its calls in its own way.
+// What is done once a plan is filled. C takes no enum of ours and names it by a byte, and each draws its calls in its own way.
 #[derive(Clone, Copy)]
 pub enum Mix {
     // Every call, also with places and rates that are refused.
@@ -49,6 +49,7 @@ const SUMMAND: u64 = 1442695040888963407;
 
 const HALF: u64 = 4_294_967_296;
 
+// Numbers are cut by `as`: each is bounded just before, and `try_from` would need an error that cannot come.
 impl Draws {
     // A step of a congruential generator from a point of its own for each call and salt, its halves multiplied.
     #[tactic(auto, unfolding(crate::specs::Seeded::drawn))]

@@ -60,6 +60,7 @@ fn whole_root(n: u64) -> u32
     if square <= n && n - square <= 2 * root {
         return near;
     }
+    // Cut by `as`: the root of 64 bits has 32, and `try_from` would need an error that cannot come.
     n.isqrt() as u32
 }
 

@@ -28,6 +28,7 @@ impl<'a, K: Kind> FlatList<'a, K> {
         FlatList { slots, used: 0 }
     }
 
+    // Cut by `as`: it is bounded just before, and `try_from` would need an error that cannot come.
     fn room(&self) -> u16
         ensures { result ≡ min (length self.now.slots.now) 256 }
     {

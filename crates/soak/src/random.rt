@@ -6,6 +6,7 @@ use sequences::calls::Call;
 #[derive(Drop)]
 pub struct Random(u64);
 
+// Numbers are cut by `as`: each is bounded just before, and `try_from` would need an error that cannot come.
 impl Random {
     pub fn new(seed: u64) -> Random {
         Random(seed)

@@ -41,13 +41,15 @@ impl<'a, K: Kind> Tree<'a, K> {
         }
     }
 
+    // Cut by `as`: it is bounded just before, and `try_from` would need an error that cannot come.
     fn room(&self) -> u16
         ensures { result ≡ room_of self.now.rows.now }
     {
         self.rows.len().min(MOST) as u16
     }
 
-    // The questions of a sequence take `&mut self`, which lends no rows for reading: they ask these.
+    // The questions of a sequence take `&mut self`, and ask these: tried straight from the field there, and the functions of
+    // `rows` get no proof.
     fn len(&self) -> u16
         ensures value { result ≡ length (list_of self.now.rows.now self.now.heads.top) }
         ensures within { result ≤ room_of self.now.rows.now }
