@@ -4,4 +4,5 @@ pub mod Meaning
 pub mod Promises
 pub mod Calls
 pub mod Kept
+pub mod Worked
 pub mod Texts

@@ -1,3 +1,4 @@
 mod Sounds
 mod Spots
 mod Searches
+mod Running

@@ -1,7 +1,7 @@
 // The calls of a survey as values, and runs of them.
 ghost use Rattle.std.specs.Prelude.{◌≡◌, true, false, Some, is_ok, IfOk};
 ghost use Rattle.sequences.specs.Runs.{Listed};
-ghost use Rattle.survey.specs.Calls.{answer, after, answers, after_all, Unaltering};
+ghost use Rattle.survey.specs.Calls.{answer, after, answers, after_all, Right, AllRight, Unaltering};
 ghost use Rattle.survey.specs.Texts.{call_text, answer_text};
 
 use crate::{Readings, Spot, Survey};
@@ -56,6 +56,7 @@ impl<S: Readings> Survey<S> {
     // Makes one call.
     pub fn apply(&mut self, call: Call) -> Answer
         ensures value { result ≡ answer (S.Sequence.room self.old.readings) (S.Sequence.list self.old.readings) call }
+        ensures right { Right (S.Sequence.room self.old.readings) (S.Sequence.list self.old.readings) call result }
         ensures after { S.Sequence.list self.new.readings ≡ after (S.Sequence.room self.old.readings) (S.Sequence.list self.old.readings) call }
         ensures room { S.Sequence.room self.new.readings ≡ S.Sequence.room self.old.readings }
         ensures same { Unaltering call result → self.new ≡ self.old }
@@ -71,6 +72,7 @@ impl<S: Readings> Survey<S> {
     // it makes none of them.
     pub fn run(&mut self, heap: Global, calls: &[Call]) -> Result<Vec<Answer>, AllocError>
         ensures value { IfOk result (λ v. v.items ≡ answers (S.Sequence.room self.old.readings) (S.Sequence.list self.old.readings) calls.now) }
+        ensures right { IfOk result (λ v. AllRight (S.Sequence.room self.old.readings) (S.Sequence.list self.old.readings) calls.now v.items) }
         ensures after { is_ok result ≡ true → S.Sequence.list self.new.readings ≡ after_all (S.Sequence.room self.old.readings) (S.Sequence.list self.old.readings) calls.now }
         ensures room { S.Sequence.room self.new.readings ≡ S.Sequence.room self.old.readings }
         ensures refused { is_ok result ≡ false → self.new ≡ self.old }
@@ -84,7 +86,8 @@ impl<S: Readings> Answering for Survey<S> {
 
     type Answer = Answer;
 
-    ghost step = { Listed (λ s. S.Sequence.room s.readings) (λ s. S.Sequence.list s.readings) answer after Unaltering };
+    // What the rules let a call answer and leave, and what its answer means.
+    ghost step = { λ p call told q. Listed (λ s. S.Sequence.room s.readings) (λ s. S.Sequence.list s.readings) answer after Unaltering p call told q × Right (S.Sequence.room p.readings) (S.Sequence.list p.readings) call told };
 
     fn make(&mut self, call: Call) -> Answer {
         self.apply(call)

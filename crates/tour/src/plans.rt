@@ -6,7 +6,7 @@ use panel::run_on_tree;
 use plan::Plan;
 use plan::calls::Call;
 use plan::summaries::PlanKind;
-use plan::theorems::every_model;
+use plan::theorems::{every_model, worked_examples};
 use rows::idle;
 use sequences::flat::FlatList;
 
@@ -90,8 +90,9 @@ const CALLS: [Call; 52] = [
 
 pub fn plan_on_a_flat_list(rt: &HostRuntime) -> anyhow::Result<()> {
     println!(rt; "A plan over a flat list of 4 slots")?;
-    // It does nothing when it runs, and stands for the theorem that is its contract.
+    // They do nothing when they run: each stands for the theorem that is its contract.
     every_model();
+    worked_examples();
     let mut slots = [Block::new(ORIGIN, FIRST, 100); 4];
     let blocks: FlatList<PlanKind> = FlatList::open(&mut slots);
     let mut plan = Plan::open(blocks);
