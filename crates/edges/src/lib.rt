@@ -5,12 +5,15 @@
 mod tests {
     use kinds::{Both, Pair, Thinnest, Total, fold, saturating_sum};
     use refusals::{Layer, Refusal};
+    use sequences::Sequence;
     use sequences::answering::make_all;
     use sequences::calls::{Answer, Call};
     use sequences::flat::FlatList;
-    use sequences::{NO_PLACE, Sequence};
     use std::test::Fail;
     use survey::{Spot, Survey};
+
+    // Spelled out, so that the tests do not lean on the library's own.
+    const NO_PLACE: Refusal = Refusal::NoPlace(Layer::Sequence);
 
     #[test]
     fn numbers_and_layers(rt: HostRuntime) {

@@ -70,13 +70,13 @@ module _ (bs : List ℕ) (first : Model) where
   along_start whole = record { whole = whole; lines = refl; left = refl }
 
   -- the whole job was run
-  record Done (text : List ℕ) (here : Model) : Type 0 where
-    lines : text ≡ lines_of first (placed_calls bs)
-    left : here ≡ model_after first (placed_calls bs)
+  pub record Done (text : List ℕ) (here : Model) : Type 0 where
+    pub lines : text ≡ lines_of first (placed_calls bs)
+    pub left : here ≡ model_after first (placed_calls bs)
 
   module _ {at : ℕ} {text before after : List ℕ} {here left : Model} (long : 64 ≤ length before) where
     -- a step after which the job goes on
-    along_line : (n : ℕ) {to w : ℕ} → Along n at text here → to ≡ step_place (length before) bs at → at + 4 ≤ to → Stepped here bs at (Ok (Some w)) before after left → ((m : ℕ) × Along m to (text ++ take w after) left) × (drop w after ≡ drop w before)
+    pub along_line : (n : ℕ) {to w : ℕ} → Along n at text here → to ≡ step_place (length before) bs at → at + 4 ≤ to → Stepped here bs at (Ok (Some w)) before after left → ((m : ℕ) × Along m to (text ++ take w after) left) × (drop w after ≡ drop w before)
     along_line zero so goes far stepped = absurd (let none = so.whole in cc)
     along_line (suc m) {to} {w} so goes far stepped =
         let found = checked_at bs at in
@@ -111,7 +111,7 @@ module _ (bs : List ℕ) (first : Model) where
         )
 
     -- a step after which it does not
-    along_end : (n : ℕ) (r : Result (Option ℕ) Refusal) → ((w : ℕ) → r ≡ Ok (Some w) → ⊥) → Along n at text here → Stepped here bs at r before after left → Done text left × (after ≡ before)
+    pub along_end : (n : ℕ) (r : Result (Option ℕ) Refusal) → ((w : ℕ) → r ≡ Ok (Some w) → ⊥) → Along n at text here → Stepped here bs at r before after left → Done text left × (after ≡ before)
     along_end zero r none so stepped = absurd (let none = so.whole in cc)
     along_end (suc m) (Ok (Some w)) none so stepped = absurd (none w refl)
     along_end (suc m) (Ok None) none so stepped =

@@ -1,6 +1,7 @@
 -- One write after another.
-use Rattle.std.proofs.Common.{◌≡◌, ℕ, ◌+◌, ◌≤◌, List, ◌++◌, length, sym, refl, ap, ◌∙◌, arith, length-append}
+use Rattle.std.proofs.Common.{◌≡◌, ℕ, ◌+◌, ◌/◌, ◌^◌, ◌<◌, ◌≤◌, List, ◌++◌, length, decimal, sym, refl, ap, ◌∙◌, arith, length-append}
 use lib.Seq.{paste}
+use Rattle.std.proofs.lemmas.Fmt.{decimal_step, length-decimal-le}
 use Rattle.std.proofs.lemmas.List.Edits.{paste_all, paste-paste}
 use Rattle.job.specs.Lines.{Grown, laid}
 use Rattle.job.specs.declared.lines.Line.{Line}
@@ -23,3 +24,7 @@ grown_then bs cs a b c h first next = record {
   bytes = next.bytes ∙ (λ i. laid (first.bytes i) (first.end i) cs) ∙ laid_on a.bytes.now a.end bs cs h;
   room = next.room ∙ first.room;
 }
+
+-- how long a number is, by its front
+pub front_long : (n : ℕ) → 10 ≤ n → n < 2 ^ 32 → (length (decimal n) ≡ length (decimal (n / 10)) + 1) × (length (decimal n) ≤ 10)
+front_long n h k = (ap length (decimal_step n h (omega arith)) ∙ length-append _ _, length-decimal-le 10 n (omega arith) (omega arith) (omega arith))

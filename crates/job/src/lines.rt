@@ -1,10 +1,10 @@
 // The lines that a step answers, written into the front of a buffer of 64 bytes or more.
 ghost use Rattle.std.specs.Prelude.{◌≡◌, ◌+◌, ◌≤◌, length, decimal};
 ghost use Rattle.job.specs.Lines.{Grown, over, speed_line, refused_line, named_part, place_named, answer_line};
+ghost use Rattle.refusals.specs.Table.{name_of};
 
-use itoa::Buffer;
 use plan::calls::Answer;
-use refusals::{Named, Refusal};
+use refusals::{Layer, Named, Refusal};
 
 // The least buffer, which every line fits into.
 pub(crate) const LINE_ROOM: usize = 64;
@@ -28,15 +28,35 @@ impl Line<'_> {
         self.end = end;
     }
 
-    // Writes `n` in decimal.
+    // Writes `n` in decimal, a digit at a time: a copy whose length is not known beforehand would have the static library want
+    // `memcpy` from outside.
     fn put_number(&mut self, n: u32)
         requires { self.old.end + 10 ≤ length self.old.bytes.now }
         ensures same_reference { self.new.bytes.ghost_name ≡ self.old.bytes.ghost_name }
         ensures bound { self.new.end ≤ self.old.end + 10 }
         ensures grown { Grown (decimal n) self.old self.new }
     {
-        let mut digits = Buffer::new();
-        self.put(digits.format(n).as_bytes());
+        if n < 10 {
+            self.put(&[b'0' + n as u8]);
+        } else {
+            self.put_number(n / 10);
+            self.put(&[b'0' + (n % 10) as u8]);
+        }
+    }
+
+    // Writes the name of a layer, each at its own length for the same reason.
+    fn put_layer(&mut self, layer: Layer)
+        requires { self.old.end + 8 ≤ length self.old.bytes.now }
+        ensures same_reference { self.new.bytes.ghost_name ≡ self.old.bytes.ghost_name }
+        ensures bound { self.new.end ≤ self.old.end + 8 }
+        ensures grown { Grown (name_of layer) self.old self.new }
+    {
+        match layer {
+            Layer::Sequence => self.put(b"sequence"),
+            Layer::Plan => self.put(b"plan"),
+            Layer::Survey => self.put(b"survey"),
+            Layer::Job => self.put(b"job"),
+        }
     }
 
     fn put_speed(&mut self, speed: u32)
@@ -73,7 +93,7 @@ impl Line<'_> {
         self.put(b"refused ");
         self.put_number(u32::from(why.number()));
         self.put(b" ");
-        self.put(why.layer().name().as_bytes());
+        self.put_layer(why.layer());
         self.put(b" ");
         self.put_number(place_named(why.named(), at));
         self.put_named(why.named());

@@ -1,5 +1,6 @@
 // Whole jobs on a plan, and the text that they come to.
-ghost use Rattle.std.specs.Prelude.{◌≡◌, ℕ, ◌+◌, ◌*◌, ◌<◌, ◌≤◌, true, false, [], length, is_some, is_ok, IfOk, Some, Ok, Err, nat_le};
+ghost use Rattle.std.specs.Prelude.{◌≡◌, ℕ, ◌+◌, ◌*◌, ◌<◌, ◌≤◌, true, false, [], ◌++◌, length, take, is_some, is_ok, IfOk, Some, Ok, Err, vec_len, vec_capacity, nat_le};
+ghost use Rattle.job.specs.Lines.{refused_line};
 ghost use Rattle.job.specs.Outputs.{lines_of, placed_calls, model_after, job_output, job_model};
 ghost use Rattle.job.specs.Texts.{text_room, Short, Wrote};
 ghost use Rattle.job.specs.Verdicts.{verdict_of};
@@ -13,6 +14,7 @@ use crate::whole::verdict;
 use plan::Plan;
 use plan::calls::Answer;
 use plan::summaries::Blocks;
+use refusals::Refusal;
 use std::alloc::{AllocError, Global};
 
 // A line has at most 64 bytes, and its field at least four.
@@ -71,6 +73,44 @@ pub fn run_into<S: Blocks>(plan: &mut Plan<S>, job: &[u8], text: &mut [u8]) -> O
     Some(run_within(plan, job, text))
 }
 
+// Adds the first bytes of a line to a text that has room for them.
+fn append(text: &mut Vec<u8>, line: &[u8], written: usize)
+    requires within { written ≤ length line.now }
+    requires room { vec_len text.old + written ≤ vec_capacity text.old }
+    ensures items { text.new.items ≡ text.old.items ++ take written line.now }
+    ensures len { vec_len text.new ≡ vec_len text.old + written }
+    ensures capacity { vec_capacity text.old ≤ vec_capacity text.new }
+{
+    let _ = text.extend_from_slice(&line[..written]);
+}
+
+// Runs an accepted job as `run_fields` does, and adds its lines to an empty text. A loop of its own: the text as a slice would
+// have to be written whole before the first line, sixteen bytes for each of the job's, of which most lines need few.
+fn add_fields<S: Blocks>(plan: &mut Plan<S>, job: &[u8], text: &mut Vec<u8>)
+    requires whole { verdict_of job.now ≡ Ok tt }
+    requires items { text.old.items ≡ [] }
+    requires len { vec_len text.old ≡ 0 }
+    requires room { length job.now * 16 ≤ vec_capacity text.old }
+    ensures lines { text.new.items ≡ lines_of (model_of S.Sequence.list S.Sequence.room plan.old) (placed_calls job.now) }
+    ensures after { model_of S.Sequence.list S.Sequence.room plan.new ≡ model_after (model_of S.Sequence.list S.Sequence.room plan.old) (placed_calls job.now) }
+{
+    let mut reader = Reader::new(job);
+    let mut line = [0u8; LINE_ROOM];
+    while let Ok(Some(written)) = reader.step(plan, &mut line) {
+        append(text, &line, written);
+    }
+}
+
+// The one line of a job that the verdict refuses, in as much memory as a line may take, however long the job is.
+fn refused_text(heap: Global, why: Refusal) -> Result<Vec<u8>, AllocError>
+    ensures { IfOk result (λ v. v.items ≡ refused_line why 0) }
+{
+    let mut text = vec![in heap; 0u8; LINE_ROOM]?;
+    let written = put_answer(&mut text, Answer::Edit(Err(why)), 0);
+    text.truncate(written);
+    Ok(text)
+}
+
 // Runs a whole job on a plan, and answers what it prints: a line for each field, or the one line of a job that the
 // verdict refuses, of which nothing is run. Where there is no memory for the text, the plan is left as it was.
 pub fn run<S: Blocks>(heap: Global, plan: &mut Plan<S>, job: &[u8]) -> Result<Vec<u8>, AllocError>
@@ -78,9 +118,14 @@ pub fn run<S: Blocks>(heap: Global, plan: &mut Plan<S>, job: &[u8]) -> Result<Ve
     ensures after { is_ok result ≡ true → model_of S.Sequence.list S.Sequence.room plan.new ≡ job_model (model_of S.Sequence.list S.Sequence.room plan.old) job.now }
     ensures refused { is_ok result ≡ false → plan.new ≡ plan.old }
 {
-    let mut text = vec![in heap; 0u8; text_room(job)]?;
-    let written = run_within(plan, job, &mut text);
-    text.truncate(written);
+    if let Err(why) = verdict(job) {
+        return refused_text(heap, why);
+    }
+    let Some(room) = job.len().checked_mul(LINE_SHARE) else {
+        return Err(AllocError);
+    };
+    let mut text = Vec::with_capacity(heap, room)?;
+    add_fields(plan, job, &mut text);
     Ok(text)
 }
 

@@ -86,6 +86,12 @@ module _ (start : List ℤ) (room : ℕ) (xs : List Block) (lie : Lie start xs) 
       let tells : r ≡ reach_told b i j = told ∙ told_same xs i j _ _ (box_told xs i j) ∙ told_of_model (λ ys. box_of (between i j ys)) in
       (tells, subst (ReachRight (blocks_of b) i j) (sym tells) (reach_right b i j lie.entries))
 
+  -- of a range that is told and not empty there is a box
+  pub reach_some : (i ≡ j → ⊥) → (r : _) → r ≡ ranged no_range xs i j (Some (summary plan_rule (between i j xs)).second.first) → (r ≡ reach_told b i j) × ReachRight (blocks_of b) i j r
+  reach_some some r told =
+      let x = (summary plan_rule (between i j xs)).second.first in
+      reach_tells r (told ∙ told_same xs i j _ _ (λ order within. sym (ap (λ t. then_some t x) (lt-ltb i j (omega (arith, order, some))))))
+
   pub span_tells : (r : _) → r ≡ ranged no_range xs i j (summary plan_rule (between i j xs)).second.second → (r ≡ span_told b i j) × SpanRight (blocks_of b) i j r
   span_tells r told =
       let tells : r ≡ span_told b i j = told ∙ ap (λ z. ranged no_range xs i j z.second.second) (parts (between i j xs)) ∙ told_of_model (λ ys. summary span_rule (between i j ys)) in

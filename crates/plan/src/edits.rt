@@ -94,7 +94,7 @@ fn block_at<S: Blocks>(start: [i32; 3], blocks: &mut S, i: u16, m: Move) -> Resu
 
 // Refuses a range that there is not, by the plan's own refusal. One comparison, as in the sequences: a function for all of them
 // would be no shorter at a call.
-fn check_range<S: Blocks>(blocks: &mut S, i: u16, j: u16) -> Result<(), Refusal>
+pub(crate) fn check_range<S: Blocks>(blocks: &mut S, i: u16, j: u16) -> Result<(), Refusal>
     ensures value { result ≡ ranged no_range (S.Sequence.list blocks.old) i j tt }
     ensures same { blocks.new ≡ blocks.old }
 {

@@ -9,6 +9,7 @@ ghost use Rattle.plan.specs.Promises.{JunctionRight, ReachRight, SpanRight};
 ghost use Rattle.sequences.specs.Lists.{ranged};
 ghost use Rattle.std.specs.List.{between};
 
+use crate::edits::check_range;
 use crate::summaries::{Blocks, Summary};
 use crate::{NO_RANGE, Plan};
 use motion::{Block, Extent};
@@ -78,13 +79,16 @@ impl<S: Blocks> Plan<S> {
             return Err(Refusal::Speed);
         }
         let count = self.blocks.count();
-        // Refused where there is no junction `j`.
-        let after = sum_up(&mut self.blocks, j, count)?.first.second;
+        // Before any summary, since a flat list walks a range to sum it up.
+        if j > count {
+            return Err(NO_RANGE);
+        }
         let whole = sum_up(&mut self.blocks, 0, count)?.first.second;
         if s > whole.through(0) {
             return Err(Refusal::Blocked(first_blocked(&mut self.blocks, count, s)));
         }
         let before = sum_up(&mut self.blocks, 0, j)?.first.first;
+        let after = sum_up(&mut self.blocks, j, count)?.first.second;
         Ok(before.through(s).min(after.through(0)))
     }
 
@@ -94,8 +98,13 @@ impl<S: Blocks> Plan<S> {
         ensures right { ReachRight (blocks_of (model_of S.Sequence.list S.Sequence.room self.old)) i j result }
         ensures same { self.new ≡ self.old }
     {
+        // Told by the count alone, since a tree walks down to where an empty range would be.
+        if i == j {
+            check_range(&mut self.blocks, i, j)?;
+            return Ok(None);
+        }
         let told = sum_up(&mut self.blocks, i, j);
-        told.map(|summary| (i < j).then_some(summary.second.first))
+        told.map(|summary| Some(summary.second.first))
     }
 
     // The length of a range.

@@ -110,7 +110,8 @@ impl<'a, K: Kind> Sequence for FlatList<'a, K> {
         if i >= self.used {
             return Err(NO_PLACE);
         }
-        self.slots[i as usize] = element;
+        let place = i as usize;
+        self.slots[place] = element;
         Ok(())
     }
 }

@@ -108,10 +108,14 @@ impl<S: Readings> Survey<S> {
         ensures spot { (spot : Spot) → result ≡ Ok (Some spot) → IsThinnest (S.Sequence.list self.old.readings) i j spot }
         ensures same { self.new ≡ self.old }
     {
-        let reading = self.least(i, j)?;
+        // Told by the count alone, since a tree walks down to where an empty range would be.
         if i == j {
+            if j > self.readings.count() {
+                return Err(NO_RANGE);
+            }
             return Ok(None);
         }
+        let reading = self.least(i, j)?;
         let place = self.first_place(i, j, reading);
         Ok(Some(Spot { reading, place }))
     }

@@ -4,8 +4,15 @@ use Rattle.kinds.specs.Rules.{summary}
 use Rattle.std.specs.List.{between}
 use Rattle.sequences.proofs.Rulings.{range_told, range_there}
 use Rattle.survey.specs.Readings.{IsThinnest, spot_at, no_range}
+use Rattle.survey.proofs.Sounds.{same_survey}
 use Rattle.survey.proofs.Spots.{thinnest_found}
 use Rattle.survey.proofs.Survey.thinnest.Goals as goal
+
+pub returns-then-j-count-clause-same : goal.returns-then-j-count-clause-same
+returns-then-j-count-clause-same g c = same_survey _ _ c.count.ensures.same
+
+pub returns-then-i-j-clause-same : goal.returns-then-i-j-clause-same
+returns-then-i-j-clause-same g c = same_survey _ _ c.count.ensures.same
 
 pub returns-clause-value : goal.returns-clause-value
 returns-clause-value g c =
