@@ -1,16 +1,23 @@
-// Edge cases of sequences and surveys as tests: empty, full, first, last, one past, and the greatest place.
+// Edge cases of sequences and surveys as tests: empty, full, first, last, one past, and the greatest place; and what generic
+// code has to say of the sequences that a plan and a survey stand on.
 #![tactic(auto)]
 
 #[cfg(test)]
 mod tests {
     use kinds::{Both, Pair, Thinnest, Total, fold, saturating_sum};
+    use motion::{Block, Move};
+    use plan::Plan;
+    use plan::summaries::PlanKind;
     use refusals::{Layer, Refusal};
+    use rows::idle;
     use sequences::Sequence;
     use sequences::answering::make_all;
     use sequences::calls::{Answer, Call};
+    use sequences::deep::Deep;
     use sequences::flat::FlatList;
     use std::test::Fail;
     use survey::{Spot, Survey};
+    use tree::Tree;
 
     // Spelled out, so that the tests do not lean on the library's own.
     const NO_PLACE: Refusal = Refusal::NoPlace(Layer::Sequence);
@@ -153,5 +160,40 @@ mod tests {
         assert_eq!(rt; list.element_at(255), Ok(255));
         assert_eq!(rt; list.delete(65535), Err(NO_PLACE));
         assert_eq!(rt; list.range_join(1, 256), Ok(1));
+    }
+
+    // A rink of which no more is said than that its survey is over a sequence, and its plan over a tree.
+    #[derive(Drop)]
+    struct Rink<S: Sequence, T: Deep> {
+        survey: Survey<S>,
+        plan: Plan<T>,
+    }
+
+    fn levels<S: Sequence, T: Deep>(rink: &mut Rink<S, T>) -> u8 {
+        rink.plan.depth()
+    }
+
+    #[test]
+    fn depth_asks_for_a_tree_alone(rt: HostRuntime) {
+        let mut slots = [0u16; 1];
+        let readings: FlatList<Thinnest> = FlatList::open(&mut slots);
+        let mut rows = [idle::<PlanKind>(Block::idle()); 2];
+        let blocks: Tree<PlanKind> = Tree::open(&mut rows);
+        let mut rink = Rink {
+            survey: Survey::open(readings),
+            plan: Plan::open(blocks),
+        };
+        let ahead = Move {
+            target: [3000, 0, 0],
+            acceleration: 100,
+            feed: 2000,
+            corner: 0,
+        };
+        assert_eq!(rt; levels(&mut rink), 0);
+        assert_eq!(rt; rink.plan.insert(0, ahead), Ok(()));
+        assert_eq!(rt; levels(&mut rink), 1);
+        assert_eq!(rt; rink.plan.insert(1, ahead), Ok(()));
+        assert_eq!(rt; levels(&mut rink), 2);
+        assert_eq!(rt; rink.survey.note(0, 300), Ok(()));
     }
 }

@@ -1,4 +1,5 @@
 pub mod Rules
+pub mod Facts
 pub mod Sums
 pub mod Models
 pub mod Balance

@@ -1,7 +1,8 @@
 // Kinds of summary: what a range of elements comes to, and the laws by which its parts may be joined.
 #![tactic(auto)]
 
-ghost use Rattle.std.specs.Prelude.{◌≡◌, ℕ, List, ◌++◌};
+ghost use Rattle.std.specs.Prelude.{◌≡◌, ℕ, ℤ, List, ◌++◌};
+ghost use Rattle.kinds.specs.Facts.{Fact, always, both_facts, sound_readings};
 ghost use Rattle.kinds.specs.Rules.{Rule, Laws, summary};
 ghost use Rattle.kinds.specs.Sums.{◌⊕◌, SumLaws};
 ghost use Rattle.kinds.specs.Models.{thinnest, fits16, thinnest_laws, summed, fits32, summed_laws, both, valid_both, both_laws};
@@ -11,7 +12,9 @@ use std::fmt;
 use std::marker::PhantomData;
 
 // A kind of summary. `rule` is what it means, `valid` tells the summaries that can exist, and `laws` is what every
-// kind owes: the unit alters nothing, and a join of three may be grouped either way.
+// kind owes: the unit alters nothing, and a join of three may be grouped either way. `sound` is what a type that stands on a
+// sequence of this kind keeps its elements to, from a start in numbers on: what a plan or a survey is. It stands here so that
+// such a type asks for a sequence and no more. A sequence itself takes any element, and most kinds leave this out.
 pub trait Kind {
     type Element: Copy;
 
@@ -22,6 +25,8 @@ pub trait Kind {
     ghost valid: { Self.Summary → Type 0 };
 
     ghost laws: { Laws valid rule };
+
+    ghost sound: { List ℤ → List Self.Element → Fact } = { λ start elements. always };
 
     fn of(element: &Self::Element) -> Self::Summary
         ensures { result ≡ rule.one element.now };
@@ -66,6 +71,8 @@ impl Kind for Thinnest {
     ghost valid = { fits16 };
 
     ghost laws = { thinnest_laws };
+
+    ghost sound = { λ start readings. sound_readings readings };
 
     fn of(element: &u16) -> u16 {
         *element
@@ -168,6 +175,8 @@ impl<A: Kind, B: Kind<Element = A::Element>> Kind for Both<A, B> {
     ghost valid = { valid_both A.Kind.valid B.Kind.valid };
 
     ghost laws = { both_laws A.Kind.laws B.Kind.laws };
+
+    ghost sound = { λ start elements. both_facts (A.Kind.sound start elements) (B.Kind.sound start elements) };
 
     fn of(element: &A::Element) -> Pair<A::Summary, B::Summary> {
         Pair {

@@ -1,6 +1,8 @@
 -- What the blocks of a plan keep to, and the model that they stand for.
 use Rattle.std.specs.Prelude.{◌≡◌, ℕ, ◌≤◌, cond, List, map, length, ℤ, Ok, Err, Result, nat_lt}
 use Rattle.std.specs.List.{All}
+use Rattle.std.proofs.Props.{props}
+use Rattle.kinds.specs.Facts.{Fact}
 use Rattle.refusals.specs.declared.Refusal.{Refusal}
 use Rattle.sequences.specs.Lists.{no_place}
 use Rattle.motion.specs.declared.blocks.Block.{Block}
@@ -33,6 +35,13 @@ pub record Lie (start : List ℤ) (blocks : List Block) : Type 0 where
   pub begins : ValidPosition start
   pub along : blocks ≡ laid start (map entry_of blocks)
   pub entries : AllValid (map entry_of blocks)
+
+pub lie_one : (start : List ℤ) (blocks : List Block) → IsProp (Lie start blocks)
+lie_one start blocks = hlevel props
+
+-- what a plan keeps of the blocks that it stands on
+abbrev pub lying : List ℤ → List Block → Fact
+lying start blocks = record { holds = Lie start blocks; once = lie_one start blocks }
 
 -- x, for every place up to the count
 abbrev pub placed : {X : Type 0} → List Block → ℕ → X → Result X Refusal

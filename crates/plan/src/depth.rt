@@ -3,11 +3,10 @@ ghost use Rattle.std.specs.Prelude.{◌≡◌, ◌-◌, ◌^◌, ◌≤◌, leng
 ghost use Rattle.kinds.specs.Balance.{fewest};
 
 use crate::Plan;
-use crate::summaries::Blocks;
 use sequences::Sequence;
 use sequences::deep::Deep;
 
-impl<S: Blocks + Deep> Plan<S> {
+impl<S: Deep> Plan<S> {
     // The depth of the tree below, or 0 where the plan is empty.
     pub fn depth(&mut self) -> u8
         ensures value { result ≡ S.Deep.levels self.old.blocks }

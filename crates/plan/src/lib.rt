@@ -2,11 +2,11 @@
 #![tactic(auto)]
 
 ghost use Rattle.std.specs.Prelude.{◌≡◌, []};
-ghost use Rattle.plan.specs.Keeping.{Lie};
 ghost use Rattle.plan.specs.Models.{place, opened};
 
 use self::summaries::Blocks;
 use refusals::{Layer, Refusal};
+use sequences::Sequence;
 
 pub mod calls;
 pub mod depth;
@@ -19,15 +19,16 @@ pub mod theorems;
 const NO_RANGE: Refusal = Refusal::NoPlace(Layer::Plan);
 
 // The start stays plain fields, as the places in a block are: a position is an array only where it is passed. The blocks
-// lie from the start on, so start, room and blocks have one model, of which the contracts speak (specs/Meaning.antt). An
-// `impl Model` with that model is no plainer: what `lie` says would be hidden from callers, and a clause of every edit.
+// lie from the start on, which is what the kind of a plan calls sound: it is `Lie` (specs/Keeping.antt). So start, room and
+// blocks have one model, of which the contracts speak (specs/Meaning.antt). An `impl Model` with that model is no plainer: what
+// `lie` says would be hidden from callers, and a clause of every edit.
 #[derive(Drop)]
-pub struct Plan<S: Blocks> {
+pub struct Plan<S: Sequence> {
     start_x: i32,
     start_y: i32,
     start_z: i32,
     blocks: S,
-    pub ghost lie: { Lie (place start_x start_y start_z) (S.Sequence.list blocks) },
+    pub ghost lie: { (S.Kind.sound (place start_x start_y start_z) (S.Sequence.list blocks)).holds } by { (S.Kind.sound (place start_x start_y start_z) (S.Sequence.list blocks)).once },
 }
 
 impl<S: Blocks> Plan<S> {

@@ -2,6 +2,7 @@
 ghost use Rattle.kinds.specs.Models.{both_laws, valid_both, fits32};
 ghost use Rattle.motion.specs.Extents.{fits_extent, reach_laws, span_laws};
 ghost use Rattle.motion.specs.Runs.{fits_run, run_up_laws, run_down_laws};
+ghost use Rattle.plan.specs.Keeping.{lying};
 ghost use Rattle.plan.specs.Models.{plan_rule};
 
 use kinds::{Both, Kind, Pair};
@@ -27,6 +28,8 @@ impl Kind for PlanKind {
     ghost valid = { valid_both (valid_both fits_run fits_run) (valid_both fits_extent fits32) };
 
     ghost laws = { both_laws (both_laws run_up_laws run_down_laws) (both_laws reach_laws span_laws) };
+
+    ghost sound = { lying };
 
     fn of(element: &Block) -> Summary {
         Sides::of(element)

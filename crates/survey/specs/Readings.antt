@@ -1,15 +1,12 @@
 -- The rules of an ice survey over its list of readings.
-use Rattle.std.specs.Prelude.{◌≡◌, ℕ, suc, ◌<◌, ◌≤◌, cond, List, [], ◌∷◌, length, Some, None, Err, Option, Result, nat_lt, slice_index, slice_index_or}
+use Rattle.std.specs.Prelude.{◌≡◌, ℕ, suc, ◌<◌, ◌≤◌, cond, List, [], ◌∷◌, Some, None, Err, Option, Result, nat_lt, slice_index, slice_index_or}
 use Rattle.std.specs.List.{between}
 use Rattle.refusals.specs.declared.Layer.TheVariants.{Survey}
 use Rattle.refusals.specs.declared.Refusal.{Refusal}
 use Rattle.refusals.specs.declared.Refusal.TheVariants.{NoPlace, Reading}
 use Rattle.sequences.specs.Lists.{insert_answer, insert_list, ranged}
 use Rattle.survey.specs.declared.Spot.{Spot}
-
--- No reading passes 2,000.
-abbrev pub Sound : List ℕ → Type 0
-Sound xs = (k : ℕ) → k < length xs → slice_index xs k ≤ 2000
+pub use Rattle.kinds.specs.Facts.{Sound}
 
 abbrev pub note_answer : List ℕ → ℕ → ℕ → ℕ → Result (Unit {0}) Refusal
 note_answer xs room i reading = cond (nat_lt 2000 reading) (Err Reading) (insert_answer xs room i)

@@ -7,7 +7,7 @@ ghost use Rattle.kinds.specs.Rules.{summary};
 ghost use Rattle.refusals.specs.declared.Refusal.{Refusal};
 ghost use Rattle.sequences.specs.Lists.{place_answer, delete_list, ranged};
 ghost use Rattle.std.specs.List.{between};
-ghost use Rattle.survey.specs.Readings.{Sound, IsThinnest, no_range, note_answer, note_list, spot_at, thinnest_answer};
+ghost use Rattle.survey.specs.Readings.{IsThinnest, no_range, note_answer, note_list, spot_at, thinnest_answer};
 
 pub mod calls;
 
@@ -33,12 +33,12 @@ pub trait Readings: Sequence<Element = u16, Summary = u16, Kind = Thinnest> {}
 
 impl<S: Sequence<Element = u16, Summary = u16, Kind = Thinnest>> Readings for S {}
 
-// No reading of a survey passes the greatest. Its edits say that the room stays, as those of a sequence do: a pair of room and
-// readings in each clause would be no plainer.
+// No reading of a survey passes the greatest, which is what the kind `Thinnest` calls sound. Its edits say that the room stays, as
+// those of a sequence do: a pair of room and readings in each clause would be no plainer.
 #[derive(Drop)]
-pub struct Survey<S: Readings> {
+pub struct Survey<S: Sequence> {
     readings: S,
-    ghost sound: { Sound (S.Sequence.list readings) },
+    ghost sound: { (S.Kind.sound [] (S.Sequence.list readings)).holds } by { (S.Kind.sound [] (S.Sequence.list readings)).once },
 }
 
 impl<S: Readings> Survey<S> {

@@ -9,8 +9,8 @@ use Rattle.survey.proofs.Survey.run.Goals as goal
 pub returns : goal.returns
 returns g c =
     let s = g.S.Sequence in
-    let room = λ (x : Survey _ g.S.Sequence _). s.room x.readings in
-    let list = λ (x : Survey _ g.S.Sequence _). s.list x.readings in
+    let room = λ (x : Survey _ _ _ _ g.S.Sequence _). s.room x.readings in
+    let list = λ (x : Survey _ _ _ _ g.S.Sequence _). s.list x.readings in
     let done = c.make_all.ensures in
     let p = c.args.self.now in
     let calls = c.args.calls.now in
