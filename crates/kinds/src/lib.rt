@@ -13,7 +13,7 @@ use std::marker::PhantomData;
 
 // A kind of summary. `rule` is what it means, `valid` tells the summaries that can exist, and `laws` is what every
 // kind owes: the unit alters nothing, and a join of three may be grouped either way. `sound` is what a type that stands on a
-// sequence of this kind keeps its elements to, from a start in numbers on: what a plan or a survey is. It stands here so that
+// sequence of this kind keeps its elements to, from a start in numbers on, as a plan and a survey do. It stands here so that
 // such a type asks for a sequence and no more. A sequence itself takes any element, and most kinds leave this out.
 pub trait Kind {
     type Element: Copy;
